@@ -1,0 +1,11 @@
+use mathlib.Core.Path.{_≡_, sym, ap, _∙_}
+use borrow.Author.Needs.{needs}
+use Rattle.records.specs.Words.{words}
+use Rattle.records.proofs.Words.{tail-of, words-more}
+use Rattle.rules.specs.Program.{ascends-above, ascending}
+use Rattle.program.proofs.parts.is_ascending.Needs as need
+
+pub returns : need.returns
+returns c =
+    let part = c .args .part .now in
+    record { value = c .ascends-above .ensures .value ∙ (ap (λ a. ascends-above a (words (tail-of part))) (c .word .ensures .value) ∙ ap ascending (sym (words-more part (search needs)))) }

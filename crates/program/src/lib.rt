@@ -1,0 +1,3 @@
+// The program file: reading it, and the checked file as a rule source.
+pub mod parts;
+pub mod reader;

@@ -1,0 +1,4 @@
+pub mod Tests
+pub mod Program
+pub mod Questions
+pub mod Stable
