@@ -1,3 +1,5 @@
 pub mod Walks
+pub mod Starts
+pub mod Questions
 pub mod Disjoint
 pub mod Rules

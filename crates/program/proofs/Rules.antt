@@ -1,10 +1,10 @@
 -- One turn of reading the records: what is left gives the answer. Assumes nothing.
 use mathlib.Core.Path.{_≡_, refl, sym, ap, _∙_}
 use mathlib.Core.List.{List, [], _∷_}
-use Prim.Native.Nat.{ℕ, zero, suc, _+_, _-_, _*_, _/_, _%_, _≤_, _<_}
+use Prim.Native.Nat.{ℕ, zero, suc, _+_, _-_, _≤_, _<_}
 use native.Mathlib.Nat.{add-zero}
 use native.Mathlib.Omega.{arith}
-use lib.ListN.{length, take, drop, set, length-take, length-drop}
+use lib.ListN.{length, take, drop, set}
 use Rattle.std.proofs.shelf.Lists.{take-rest, drop-drop}
 use Rattle.std.specs.declared.option.Option.{Option}
 use Rattle.std.specs.declared.option.Option.the-variants.{Some, None}
@@ -13,10 +13,10 @@ use Rattle.std.specs.declared.result.Result.the-variants.{Ok, Err}
 use Rattle.refusal.specs.declared.Reason.{Reason}
 use Rattle.refusal.specs.declared.Reason.the-variants.{Limit}
 use Rattle.refusal.specs.declared.Refusal.{Refusal}
-use Rattle.records.proofs.Words.{length-words}
 use Rattle.rules.specs.Program.{Rule}
-use Rattle.program.specs.Reading.{refusal-at, refuse, opened, Fitting, rule-of, atoms-fault, checked, ended, after-end, after-rule, by-fault, last-record, next-record, rules-from}
+use Rattle.program.specs.Reading.{refusal-at, refuse, opened, rule-of, atoms-fault, checked, ended, after-end, after-rule, by-fault, last-record, next-record, rules-from}
 use Rattle.program.specs.Index.{rule-size, with-starts, indexed-from}
+use Rattle.program.specs.Here.{rule-here, size-of-rule}
 use Rattle.program.specs.declared.reader.Index.{Index}
 use Rattle.program.specs.declared.reader.Opened.the-variants.{End, RuleRecord}
 
@@ -53,13 +53,6 @@ fault-refused place r more e (Some why) is = let same : refusal-at why place ≡
 fault-passed : (place : ℕ) (r : Rule) (more : Result (List Rule) Refusal) (u : Unit {0}) (o : Option Reason) → Ok u ≡ checked place o → by-fault place r more o ≡ after-rule r more
 fault-passed place r more u None is = refl
 fault-passed place r more u (Some why) is = absurd (let z : _≡_ {A = ℕ} 0 1 = cc in omega arith)
-
--- a rule's record is as long as it says
-pub size-of-rule : (rest : List ℕ) (size k : ℕ) → 4 + size ≤ length rest → 2 * k + 4 ≤ size → size % 2 ≡ 0 → rule-size (rule-of rest size k) ≡ 4 + size
-size-of-rule rest size k whole counted even =
-    let left : length (rule-of rest size k .positive) ≡ k = length-words k (take ((8 + 2 * k) - 8) (drop 8 rest)) (simp (length-take, length-drop) (omega arith)) in
-    let right : length (rule-of rest size k .negative) ≡ (size - 4 - 2 * k) / 2 = length-words ((size - 4 - 2 * k) / 2) (take ((4 + size) - (8 + 2 * k)) (drop (8 + 2 * k) rest)) (simp (length-take, length-drop) (omega arith)) in
-    omega (arith, left, right)
 
 -- the index, with one more rule
 indexed-more : (n : ℕ) (starts : List ℕ) (count place : ℕ) (r : Rule) (rules : Result (List Rule) Refusal)
@@ -109,13 +102,13 @@ module _ (bytes : List ℕ) (n stated : ℕ) (starts : List ℕ) (count place : 
       pub turn-fault : (e : Refusal) → Err e ≡ checked place (atoms-fault n (rule-of left-of size k)) → Err e ≡ answer
       turn-fault e bad = given-answer (Err e) (stepped ∙ fault-refused place (rule-of left-of size k) _ e (atoms-fault n (rule-of left-of size k)) bad)
 
-      pub turn-rule : (u : Unit {0}) → Ok u ≡ checked place (atoms-fault n (rule-of left-of size k)) → 4 + size ≤ length left-of → 2 * k + 4 ≤ size → size % 2 ≡ 0
+      pub turn-rule : (u : Unit {0}) → Ok u ≡ checked place (atoms-fault n (rule-of left-of size k))
         → indexed-from n (set starts count place) (count + 1) (place + (4 + size)) (rules-from (8000 - (count + 1)) n stated (count + 1) (drop (place + (4 + size)) bytes) (place + (4 + size))) ≡ answer
-      turn-rule u good whole counted even =
+      turn-rule u good =
           let rest = rules-from (8000 - (count + 1)) n stated (count + 1) (drop (place + (4 + size)) bytes) (place + (4 + size)) in
           let beyond : drop (4 + size) left-of ≡ drop (place + (4 + size)) bytes = ap (drop (4 + size)) (take-rest bytes place) ∙ drop-drop (4 + size) place bytes in
           let passed = stepped ∙ fault-passed place (rule-of left-of size k) _ u (atoms-fault n (rule-of left-of size k)) good
             ∙ ap (λ t. after-rule (rule-of left-of size k) (rules-from (8000 - (count + 1)) n stated (count + 1) t (place + (4 + size)))) beyond in
-          ap (λ s. indexed-from n (set starts count place) (count + 1) (place + s) rest) (sym (size-of-rule left-of size k whole counted even))
+          ap (λ s. indexed-from n (set starts count place) (count + 1) (place + s) rest) (sym (size-of-rule left-of size k (rule-here left-of place size k (sym is))))
           ∙ sym (indexed-more n starts count place (rule-of left-of size k) rest)
           ∙ given-answer (after-rule (rule-of left-of size k) rest) passed

@@ -141,3 +141,8 @@ by-head bytes (Ok h) = with-atoms (h .atoms) (rules-from 8000 (h .atoms) (h .rul
 -- the program in the bytes, or the refusal: the size first, then the head, then the records in turn
 abbrev pub program-in : List ℕ → Result Program Refusal
 program-in bytes = cond (leb (length bytes) 65000) (by-head bytes (file-head bytes)) (refuse Limit 0)
+
+-- the program that was read; none is the empty one
+abbrev pub read-or-empty : Result Program Refusal → Program
+read-or-empty (Ok p) = p
+read-or-empty (Err e) = record { atoms = 0; rules = [] }

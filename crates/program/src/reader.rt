@@ -1,7 +1,11 @@
 // Reading a program file: every check in its order, and an index of where the rules begin.
 ghost use mathlib.Core.Path.{_≡_};
 ghost use Prim.Native.Nat.{ℕ, _+_, _-_, _*_, _≤_, _<_};
+ghost use mathlib.Core.Bool.{cond};
 ghost use lib.ListN.{length, drop, replicate};
+ghost use Rattle.std.specs.Finite.{nth};
+ghost use Rattle.std.specs.declared.option.Option.the-variants.{None};
+ghost use Rattle.rules.specs.Program.{within};
 ghost use Rattle.program.specs.Reading.{refusal-at, file-head, opened, Fitting, opened-rule, rule-length, atoms-fault, rule-of, ended, checked, rules-from, program-in};
 ghost use Rattle.program.specs.Index.{indexed, indexed-from};
 use crate::parts::all_within;
@@ -38,6 +42,35 @@ pub struct Index {
     atoms: u16,
     count: u16,
     starts: [u16; 8000],
+}
+
+impl Index {
+    // The number of atoms.
+    pub fn atoms(&self) -> u16
+        ensures value { λ r. ⌜ r ≡ now (self .entry) .atoms ⌝ }
+    {
+        self.atoms
+    }
+
+    // The number of rules.
+    pub fn rules(&self) -> u16
+        ensures value { λ r. ⌜ r ≡ now (self .entry) .count ⌝ }
+    {
+        self.count
+    }
+
+    // The first byte of a rule's record.
+    pub fn start_of(&self, rule: u16) -> Option<u16>
+        ensures value { λ r. ⌜ r ≡ cond (within (now (self .entry) .count) rule) (nth (now (self .entry) .starts) (rule - 1)) None ⌝ }
+    {
+        if rule < 1 || rule > self.count {
+            return None;
+        }
+        match self.starts.get(usize::from(rule) - 1) {
+            Some(start) => Some(*start),
+            None => None,
+        }
+    }
 }
 
 // Checks a program file, and tells where its rules begin.

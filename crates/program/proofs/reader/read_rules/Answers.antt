@@ -54,7 +54,7 @@ records-again c =
       subst (λ o. Fitting (take (length bytes - c .records .place) (drop (c .records .place) bytes)) (Ok o)) (c .in-RuleRecord .is) (c .in-Continue-open-record .ensures tt .fitting) in
     let whole : 4 + size ≤ length bytes - c .records .place = omega (arith, simp (length-take, length-drop) at (fits .0)) in
     let next = turn-rule bytes (c .args .head .atoms) (c .args .head .rules) (c .records .starts) (c .records .count) (c .records .place) _ (c .records .inv .4)
-        size k is (c .if-count-ge-MAX-RULES .left) (c .in-Continue-check-atoms .field-0) (c .in-Continue-check-atoms .ensures tt .value) (fits .0) (fits .1) (fits .2) in
+        size k is (c .if-count-ge-MAX-RULES .left) (c .in-Continue-check-atoms .field-0) (c .in-Continue-check-atoms .ensures tt .value) in
     (omega arith, omega (arith, c .from-in-records .ensures), omega arith, simp length-set (c .records .inv .3), 
       ap (λ i. indexed-from (c .args .head .atoms) (set (c .records .starts) i (c .records .place)) (c .records .count + 1) (c .records .place + (4 + c .from-in-records .result))
         (rules-from (8000 - (c .records .count + 1)) (c .args .head .atoms) (c .args .head .rules) (c .records .count + 1) (drop (c .records .place + (4 + c .from-in-records .result)) bytes) (c .records .place + (4 + c .from-in-records .result))))
