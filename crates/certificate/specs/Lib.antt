@@ -1,3 +1,4 @@
 pub mod Claims
 pub mod Encoding
 pub mod Reading
+pub mod Relation

@@ -21,6 +21,7 @@ use Rattle.rules.specs.Program.{within}
 use Rattle.levels.specs.declared.table.Entry.{Entry}
 use Rattle.levels.specs.declared.table.Entry.the-variants.{Empty, Holds}
 use Rattle.certificate.specs.declared.Claim.{Claim}
+use Rattle.certificate.specs.declared.Step.{Step}
 use Rattle.certificate.specs.declared.Opened.{Opened}
 use Rattle.certificate.specs.declared.Opened.the-variants.{End, ClaimRecord}
 
@@ -73,6 +74,11 @@ Fitting width rest (Ok (ClaimRecord size)) = (4 + size ≤ length rest) × (clai
 abbrev pub atom-fault : ℕ → ℕ → ℕ → Option Reason
 atom-fault n last atom = cond (within n atom) (cond (ltb last atom) None (Some Order)) (Some Atom)
 
+-- a fault, as a call answers it
+abbrev pub checked : ℕ → Option Reason → Result (Unit {0}) Refusal
+checked place None = Ok tt
+checked place (Some why) = refuse why place
+
 -- the end record: nothing follows
 abbrev pub ended : List ℕ → ℕ → Result (Unit {0}) Refusal
 ended rest place = cond (eqb (length rest) 4) (Ok tt) (refuse Trailing (place + 4))
@@ -85,6 +91,16 @@ module _ {L : Type 0} (width : ℕ) (decode : List ℕ → L) where
   -- the claim in a record of `size` bytes
   abbrev pub claim-of : List ℕ → ℕ → Claim L
   claim-of rest size = record { atom = valueOr (word-at rest 4) 0; level = level-in rest size }
+
+  -- the claim in a record that begins at a place, and where the next record begins
+  abbrev pub step-at : List ℕ → ℕ → Result Opened Refusal → Option (Step L)
+  step-at bytes place (Err e) = None
+  step-at bytes place (Ok End) = None
+  step-at bytes place (Ok (ClaimRecord size)) = Some (record { claim = claim-of (drop place bytes) size; next = place + (4 + size) })
+
+  -- the claim at a place, or none where no claim's record stands
+  abbrev pub claim-at : List ℕ → ℕ → Option (Step L)
+  claim-at bytes place = step-at bytes place (opened width (drop place bytes) place)
 
   abbrev pub after-end : Result (Unit {0}) Refusal → Result (List (Claim L)) Refusal
   after-end (Ok u) = Ok []

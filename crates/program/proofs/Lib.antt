@@ -3,3 +3,6 @@ pub mod Starts
 pub mod Questions
 pub mod Disjoint
 pub mod Rules
+pub mod Opened
+pub mod Encoded
+pub mod Relation

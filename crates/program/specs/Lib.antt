@@ -6,3 +6,4 @@ pub mod Stored
 pub mod Turns
 pub mod Here
 pub mod Lawful
+pub mod Relation

@@ -8,6 +8,7 @@ ghost use Rattle.std.specs.declared.option.Option.the-variants.{None};
 ghost use Rattle.rules.specs.Program.{within};
 ghost use Rattle.program.specs.Reading.{refusal-at, file-head, opened, Fitting, opened-rule, rule-length, atoms-fault, rule-of, ended, checked, rules-from, program-in};
 ghost use Rattle.program.specs.Index.{indexed, indexed-from};
+ghost use Rattle.program.specs.Relation.{ReadsExactly};
 use crate::parts::all_within;
 use crate::parts::are_disjoint;
 use crate::parts::is_ascending;
@@ -76,6 +77,7 @@ impl Index {
 // Checks a program file, and tells where its rules begin.
 pub fn check(bytes: &[u8]) -> Result<Index, Refusal>
     ensures value { λ r. ⌜ r ≡ indexed (program-in (now (bytes .entry))) ⌝ }
+    ensures exact { λ _. ⌜ ReadsExactly (now (bytes .entry)) ⌝ }
 {
     if bytes.len() > MAX_BYTES {
         return Err(refuse(Reason::Limit, 0));

@@ -1,0 +1,4 @@
+pub mod Claims
+pub mod Never
+pub mod Steps
+pub mod Turns
