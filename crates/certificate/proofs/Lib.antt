@@ -1,4 +1,5 @@
 pub mod Claims
 pub mod Never
+pub mod Standing
 pub mod Steps
 pub mod Turns

@@ -6,7 +6,7 @@ ghost use Rattle.levels.specs.declared.table.Entry.the-variants.{Empty};
 ghost use denote.Ref.{name};
 ghost use Rattle.std.specs.Results.{isOk};
 ghost use Rattle.certificate.specs.Reading.{claims-in};
-ghost use Rattle.survey.specs.Making.{wrong-length, fitting, nothing-claimed, allowed, makeable, claims-or-none, with-claims, with-levels, made-marks, made-entries};
+ghost use Rattle.survey.specs.Making.{wrong-length, fitting, nothing-claimed, allowed, makeable, claims-or-none, with-claims, with-entry, with-levels, made-marks, made-entries};
 use certificate::check;
 use certificate::next_claim;
 use levels::order::Level;
@@ -76,10 +76,18 @@ fn put_claims<L: StoredLevel>(n: u16, marks: &mut [u8], levels: &mut LevelTable<
     let mut place = 8;
     'claims: while let Some(step) = next_claim::<L>(certificate, place) {
         marks::put_in(marks, step.claim.atom);
-        if let Entry::Holds(level) = step.claim.level {
-            levels.put(step.claim.atom, level);
-        }
+        put_entry(levels, step.claim.atom, step.claim.level);
         place = step.next;
+    }
+}
+
+// Gives an atom the level of an entry, where it holds one.
+fn put_entry<L: Level>(levels: &mut LevelTable<L>, atom: u16, entry: Entry<L>)
+    ensures after { λ _. ⌜ now (now (levels .exit) .entries) ≡ with-entry (now (now (levels .entry) .entries)) atom entry ⌝ }
+    ensures named { λ _. ⌜ name (now (levels .exit) .entries) ≡ name (now (levels .entry) .entries) ⌝ }
+{
+    if let Entry::Holds(level) = entry {
+        levels.put(atom, level);
     }
 }
 
