@@ -4,7 +4,7 @@ use mathlib.Core.Logic.{_⊎_, inl, inr}
 use mathlib.Core.List.{List, [], _∷_}
 use Prim.Native.Nat.{ℕ, zero, suc, _+_}
 use native.Mathlib.Omega.{arith}
-use lib.ListN.{length, drop}
+use lib.ListN.{drop}
 use Rattle.std.specs.declared.option.Option.{Option}
 use Rattle.std.specs.declared.option.Option.the-variants.{Some, None}
 use Rattle.std.specs.declared.result.Result.{Result}
@@ -12,7 +12,7 @@ use Rattle.std.specs.declared.result.Result.the-variants.{Ok, Err}
 use Rattle.refusal.specs.declared.Reason.{Reason}
 use Rattle.refusal.specs.declared.Reason.the-variants.{RecordCount}
 use Rattle.refusal.specs.declared.Refusal.{Refusal}
-use Rattle.certificate.specs.Reading.{refusal-at, refuse, opened, claim-of, atom-fault, checked, ended, after-end, after-claim, by-fault, next-record, claims-from}
+use Rattle.certificate.specs.Reading.{refuse, opened, claim-of, atom-fault, ended, after-end, after-claim, by-fault, next-record, claims-from}
 use Rattle.certificate.specs.declared.Claim.{Claim}
 use Rattle.certificate.specs.declared.Opened.{Opened}
 use Rattle.certificate.specs.declared.Opened.the-variants.{End, ClaimRecord}
@@ -56,16 +56,16 @@ module _ {L : Type 0} (width : ℕ) (decode : List ℕ → L) (n last : ℕ) (re
   ends claims (Err e) is whole found = absurd (let z : _≡_ {A = ℕ} 0 1 = cc in omega arith)
 
   goes-after : (room size : ℕ) (claims : List (Claim L)) (r : Result (List (Claim L)) Refusal) → opened width rest place ≡ Ok (ClaimRecord size)
-    → atom-fault n last (claim-of width decode rest size .atom) ≡ None
-    → claims-from width decode room n (claim-of width decode rest size .atom) (drop (4 + size) rest) (place + (4 + size)) ≡ r
-    → after-claim width decode (claim-of width decode rest size) r ≡ Ok claims → Goes (suc room) claims
+      → atom-fault n last (claim-of width decode rest size .atom) ≡ None
+      → claims-from width decode room n (claim-of width decode rest size .atom) (drop (4 + size) rest) (place + (4 + size)) ≡ r
+      → after-claim width decode (claim-of width decode rest size) r ≡ Ok claims → Goes (suc room) claims
   goes-after room size claims (Ok rest-of) is sound after found =
       record { size = size; room′ = room; claims′ = rest-of; first = cc; roomy = refl; is = is; sound = sound; after = after }
   goes-after room size claims (Err e) is sound after found = absurd (let z : _≡_ {A = ℕ} 0 1 = cc in omega arith)
 
   goes : (room size : ℕ) (claims : List (Claim L)) (f : Option Reason) → opened width rest place ≡ Ok (ClaimRecord size)
-    → atom-fault n last (claim-of width decode rest size .atom) ≡ f
-    → by-fault width decode place (more room size) f ≡ Ok claims → Goes room claims
+      → atom-fault n last (claim-of width decode rest size .atom) ≡ f
+      → by-fault width decode place (more room size) f ≡ Ok claims → Goes room claims
   goes room size claims (Some why) is sound found = absurd (let z : _≡_ {A = ℕ} 0 1 = cc in omega arith)
   goes zero size claims None is sound found = absurd (let z : _≡_ {A = ℕ} 0 1 = cc in omega arith)
   goes (suc room) size claims None is sound found = goes-after room size claims _ is sound refl found

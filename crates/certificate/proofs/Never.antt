@@ -1,6 +1,6 @@
 -- The refusal for too many records never comes. Assumes nothing.
-use mathlib.Core.Path.{_≡_, refl, sym, ap, subst, _∙_}
-use mathlib.Core.Bool.{true, cond}
+use mathlib.Core.Path.{_≡_, refl, sym, ap, subst}
+use mathlib.Core.Bool.{cond}
 use mathlib.Core.List.{List}
 use Prim.Native.Nat.{ℕ, zero, suc, _+_, _≤_, _<_}
 use native.Mathlib.Omega.{arith}
@@ -18,7 +18,7 @@ use Rattle.refusal.specs.declared.Refusal.{Refusal}
 use Rattle.records.specs.Words.{header-of, word-at}
 use Rattle.records.specs.declared.Header.{Header}
 use Rattle.rules.specs.Program.{within}
-use Rattle.certificate.specs.Reading.{refuse, by-numbers, by-head-header, stated-kind, claim-length, opened-claim, by-header, opened, atom-fault, ended, claim-of, after-end, after-claim, by-fault, next-record, claims-from, by-kind, claims-in}
+use Rattle.certificate.specs.Reading.{refuse, by-numbers, by-head-header, stated-kind, claim-length, opened-claim, by-header, opened, claim-of, after-end, after-claim, by-fault, next-record, claims-from, by-kind, claims-in}
 use Rattle.certificate.specs.Relation.{NeverTooMany}
 use Rattle.certificate.specs.declared.Claim.{Claim}
 use Rattle.certificate.specs.declared.Opened.{Opened}

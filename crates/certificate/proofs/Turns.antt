@@ -1,12 +1,13 @@
 -- One turn of counting the records: what is left gives the answer. Assumes nothing.
-use mathlib.Core.Path.{_≡_, refl, sym, ap, _∙_}
+use mathlib.Core.Path.{_≡_, refl, sym, ap, subst, _∙_}
 use mathlib.Core.List.{List, [], _∷_}
 use Prim.Native.Nat.{ℕ, zero, suc, _+_, _-_, _≤_, _<_}
 use native.Mathlib.Nat.{add-zero}
 use native.Mathlib.Omega.{arith}
-use lib.ListN.{length, take, drop}
+use lib.ListN.{length, take, drop, length-take, length-drop}
 use Rattle.std.proofs.shelf.Lists.{take-rest, drop-drop}
 use Rattle.std.specs.Options.{valueOr}
+use Rattle.std.specs.Results.{ErrBy}
 use Rattle.std.specs.declared.option.Option.{Option}
 use Rattle.std.specs.declared.option.Option.the-variants.{Some, None}
 use Rattle.std.specs.declared.result.Result.{Result}
@@ -15,7 +16,7 @@ use Rattle.refusal.specs.declared.Reason.{Reason}
 use Rattle.refusal.specs.declared.Reason.the-variants.{RecordCount}
 use Rattle.refusal.specs.declared.Refusal.{Refusal}
 use Rattle.records.specs.Words.{word-at}
-use Rattle.certificate.specs.Reading.{refusal-at, refuse, opened, claim-of, atom-fault, checked, ended, after-end, after-claim, by-fault, next-record, claims-from}
+use Rattle.certificate.specs.Reading.{refusal-at, refuse, opened, Fitting, claim-of, atom-fault, checked, ended, after-end, after-claim, by-fault, next-record, claims-from}
 use Rattle.certificate.specs.declared.Claim.{Claim}
 use Rattle.certificate.specs.declared.Opened.{Opened}
 use Rattle.certificate.specs.declared.Opened.the-variants.{End, ClaimRecord}
@@ -25,6 +26,17 @@ use Rattle.certificate.proofs.Claims.{with-rest, more, claims-by}
 abbrev pub counted-from : {L : Type 0} → ℕ → Result (List (Claim L)) Refusal → Result ℕ Refusal
 counted-from count (Ok cs) = Ok (count + length cs)
 counted-from count (Err e) = Err e
+
+-- what the exit of a `?` returns
+pub exits : (r : Result ℕ Refusal) (e : Refusal) (answer : Result ℕ Refusal) → ErrBy r (λ y. y ≡ e) → Err e ≡ answer → r ≡ answer
+exits (Ok x) e answer by is = absurd by
+exits (Err y) e answer by is = ap Err by ∙ is
+
+-- a claim's record ends inside the file
+pub inside : (w : ℕ) (bytes : List ℕ) (place size : ℕ) (o : Opened) → o ≡ ClaimRecord size → Fitting w (take (length bytes - place) (drop place bytes)) (Ok o) → 4 + size ≤ length bytes - place
+inside w bytes place size o is fits =
+    let whole = subst (λ x. Fitting w (take (length bytes - place) (drop place bytes)) (Ok x)) is fits .0 in
+    omega (arith, simp (length-take, length-drop) at whole)
 
 module _ {L : Type 0} (width : ℕ) (decode : List ℕ → L) where
   counted-more : (count : ℕ) (c : Claim L) (claims : Result (List (Claim L)) Refusal) → counted-from count (after-claim width decode c claims) ≡ counted-from (count + 1) claims
@@ -41,16 +53,15 @@ module _ {L : Type 0} (width : ℕ) (decode : List ℕ → L) where
 
   -- w is the width as the code has it
   module _ (bytes : List ℕ) (n count last place : ℕ) (answer : Result ℕ Refusal)
-    (inv : counted-from count (claims-from width decode (n - count) n last (drop place bytes) place) ≡ answer)
-    (w : ℕ) (sized : w ≡ width) where
-
+      (inv : counted-from count (claims-from width decode (n - count) n last (drop place bytes) place) ≡ answer)
+      (w : ℕ) (sized : w ≡ width) where
     -- what is left of the file, as a slice has it
     abbrev left-of : List ℕ
     left-of = take (length bytes - place) (drop place bytes)
 
     -- the claims from here on, by the record that stands here
     by-record : (room : ℕ) (o : Result Opened Refusal) → o ≡ opened w left-of place
-      → claims-from width decode room n last left-of place ≡ next-record width decode n last left-of place (more width decode n last left-of place room) o
+        → claims-from width decode room n last left-of place ≡ next-record width decode n last left-of place (more width decode n last left-of place room) o
     by-record room o is = claims-by width decode n last left-of place room o (sym (is ∙ ap (λ v. opened v left-of place) sized))
 
     given-answer : (x : Result (List (Claim L)) Refusal) → claims-from width decode (n - count) n last left-of place ≡ x → counted-from count x ≡ answer
@@ -83,16 +94,16 @@ module _ {L : Type 0} (width : ℕ) (decode : List ℕ → L) where
             given-answer (refuse RecordCount place) (stepped zero none ∙ fault-passed place (refuse RecordCount place) u (atom-fault n last atom) good)
 
         pub turn-claim : count < n → (s : ℕ) → s ≡ size
-          → counted-from (count + 1) (claims-from width decode (n - (count + 1)) n atom (drop (place + (4 + s)) bytes) (place + (4 + s))) ≡ answer
+            → counted-from (count + 1) (claims-from width decode (n - (count + 1)) n atom (drop (place + (4 + s)) bytes) (place + (4 + s))) ≡ answer
         turn-claim room s s-is =
             let one : n - count ≡ suc (n - (count + 1)) = omega arith in
             let rest : ℕ → List ℕ → Result (List (Claim L)) Refusal = λ a t. claims-from width decode (n - (count + 1)) n a t (place + (4 + size)) in
             let claim = claim-of width decode left-of size in
             let beyond : drop (4 + size) left-of ≡ drop (place + (4 + size)) bytes = ap (drop (4 + size)) (take-rest bytes place) ∙ drop-drop (4 + size) place bytes in
             let passed = stepped (suc (n - (count + 1))) one
-              ∙ fault-passed place (with-rest width decode n last left-of place (n - (count + 1)) size) u (atom-fault n last atom) good
-              ∙ ap (λ t. after-claim width decode claim (rest (claim .atom) t)) beyond
-              ∙ ap (λ a. after-claim width decode claim (rest a (drop (place + (4 + size)) bytes))) (sym atom-is) in
+            ∙ fault-passed place (with-rest width decode n last left-of place (n - (count + 1)) size) u (atom-fault n last atom) good
+            ∙ ap (λ t. after-claim width decode claim (rest (claim .atom) t)) beyond
+            ∙ ap (λ a. after-claim width decode claim (rest a (drop (place + (4 + size)) bytes))) (sym atom-is) in
             ap (λ z. counted-from (count + 1) (claims-from width decode (n - (count + 1)) n atom (drop (place + (4 + z)) bytes) (place + (4 + z)))) s-is
             ∙ sym (counted-more count claim (rest atom (drop (place + (4 + size)) bytes)))
             ∙ given-answer (after-claim width decode claim (rest atom (drop (place + (4 + size)) bytes))) passed

@@ -13,8 +13,8 @@ module _ {L : Type 0} (width : ℕ) (encode : L → List ℕ) (decode : List ℕ
   -- the bytes hold claims exactly when these can be stored and the bytes are their encoding
   abbrev pub ReadsExactly : Type 0
   ReadsExactly = (claims : List (Claim L))
-    → (claims-in width decode n kind bytes ≡ Ok claims → Storable encode n kind claims × (bytes ≡ encoding encode n kind claims))
-    × (Storable encode n kind claims → bytes ≡ encoding encode n kind claims → claims-in width decode n kind bytes ≡ Ok claims)
+      → (claims-in width decode n kind bytes ≡ Ok claims → Storable encode n kind claims × (bytes ≡ encoding encode n kind claims))
+      × (Storable encode n kind claims → bytes ≡ encoding encode n kind claims → claims-in width decode n kind bytes ≡ Ok claims)
 
 module _ {L : Type 0} (width : ℕ) (decode : List ℕ → L) (n kind : ℕ) (bytes : List ℕ) where
   -- no certificate has more claims than atoms: they ascend within 1 to n, and one that does not is refused before

@@ -4,6 +4,7 @@ ghost use mathlib.Core.Bool.{true};
 ghost use Prim.Native.Nat.{_+_, _≤_, _<_};
 ghost use lib.ListN.{length, drop};
 ghost use Rattle.certificate.specs.Reading.{refusal-at, stated-kind, opened, opened-claim, Fitting, claim-length, atom-fault, checked, ended, level-in, claim-of, claim-at, claims-from, claims-in, counted};
+ghost use Rattle.certificate.specs.Relation.{ReadsExactly, NeverTooMany};
 use levels::order::StoredLevel;
 use levels::table::Entry;
 use levels::table::EntryClone;
@@ -39,6 +40,8 @@ pub struct Step<L> {
 // How many claims a certificate for n atoms has.
 pub fn check<L: StoredLevel>(bytes: &[u8], n: u16) -> Result<u16, Refusal>
     ensures value { λ r. ⌜ r ≡ counted (claims-in width decode n kind (now (bytes .entry))) ⌝ }
+    ensures exact { λ _. ⌜ ReadsExactly width encode decode n kind (now (bytes .entry)) ⌝ }
+    ensures never { λ _. ⌜ NeverTooMany width decode n kind (now (bytes .entry)) ⌝ }
 {
     let stated = read_kind(bytes, n)?;
     if stated != L::level_kind() {

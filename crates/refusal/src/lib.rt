@@ -1,6 +1,7 @@
 // What a refusal is: the reason, the layer that refused, and the place.
 ghost use mathlib.Core.Path.{_≡_};
 ghost use Rattle.refusal.specs.Numbers.{number-of, letter-of};
+ghost use Rattle.refusal.specs.Tables.{length-checked};
 
 // Why input is refused. docs/REFUSALS.md says when each is given.
 #[derive(Clone, Copy)]
@@ -101,4 +102,18 @@ impl Layer {
             Layer::Writer => 'W',
         }
     }
+}
+
+// Refuses a table that does not have one entry for each of n atoms.
+pub fn check_length(n: u16, entries: usize) -> Result<(), Refusal>
+    ensures value { λ r. ⌜ r ≡ length-checked n entries ⌝ }
+{
+    if entries == usize::from(n) {
+        return Ok(());
+    }
+    Err(Refusal {
+        reason: Reason::TableLength,
+        layer: Layer::Survey,
+        place: entries,
+    })
 }

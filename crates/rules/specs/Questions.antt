@@ -1,10 +1,10 @@
 -- What can be asked of a program: rules are numbered from 1, positions in a part from 0. Assumes nothing.
 use mathlib.Core.Bool.{cond}
-use mathlib.Core.List.{List}
+use mathlib.Core.List.{List, []}
 use Prim.Native.Nat.{ℕ, _-_}
 use lib.Dec.{eqb}
 use Rattle.std.specs.Finite.{nth}
-use Rattle.std.specs.Options.{mapped}
+use Rattle.std.specs.Options.{mapped, valueOr}
 use Rattle.std.specs.declared.option.Option.{Option}
 use Rattle.std.specs.declared.option.Option.the-variants.{Some, None}
 use Rattle.rules.specs.Program.{Rule, Program}
@@ -25,3 +25,11 @@ positive-at p k i = in-part (mapped (λ r. r .positive) (rule-at p k)) i
 
 abbrev pub negative-at : Program → ℕ → ℕ → Option ℕ
 negative-at p k i = in-part (mapped (λ r. r .negative) (rule-at p k)) i
+
+-- the positive part of a rule; that of an absent rule is empty
+abbrev pub positive-part : Program → ℕ → List ℕ
+positive-part p k = valueOr (mapped (λ r. r .positive) (rule-at p k)) []
+
+-- the negative part of a rule; that of an absent rule is empty
+abbrev pub negative-part : Program → ℕ → List ℕ
+negative-part p k = valueOr (mapped (λ r. r .negative) (rule-at p k)) []

@@ -8,17 +8,13 @@ use Rattle.std.specs.declared.option.Option.{Option}
 use Rattle.std.specs.declared.option.Option.the-variants.{Some, None}
 use Rattle.std.specs.declared.result.Result.{Result}
 use Rattle.std.specs.declared.result.Result.the-variants.{Ok, Err}
-use Rattle.refusal.specs.declared.Reason.the-variants.{TableLength}
-use Rattle.refusal.specs.declared.Layer.the-variants.{Survey}
+use Rattle.refusal.specs.Tables.{wrong-length}
 use Rattle.refusal.specs.declared.Refusal.{Refusal}
 use Rattle.levels.specs.Table.{with-level}
 use Rattle.levels.specs.declared.table.Entry.{Entry}
 use Rattle.levels.specs.declared.table.Entry.the-variants.{Empty, Holds}
 use Rattle.marks.specs.Marks.{with-in}
 use Rattle.certificate.specs.declared.Claim.{Claim}
-
-abbrev pub wrong-length : ℕ → Refusal
-wrong-length found = record { reason = TableLength; layer = Survey; place = found }
 
 -- both tables have one entry for each of the n atoms: the marks are looked at first
 abbrev pub fitting : ℕ → ℕ → ℕ → Result (Unit {0}) Refusal

@@ -6,15 +6,14 @@ ghost use Rattle.levels.specs.declared.table.Entry.the-variants.{Empty};
 ghost use denote.Ref.{name};
 ghost use Rattle.std.specs.Results.{isOk};
 ghost use Rattle.certificate.specs.Reading.{claims-in};
-ghost use Rattle.survey.specs.Making.{wrong-length, fitting, nothing-claimed, allowed, makeable, claims-or-none, with-claims, with-entry, with-levels, made-marks, made-entries};
+ghost use Rattle.survey.specs.Making.{fitting, nothing-claimed, allowed, makeable, claims-or-none, with-claims, with-entry, with-levels, made-marks, made-entries};
 use certificate::check;
 use certificate::next_claim;
 use levels::order::Level;
 use levels::order::StoredLevel;
 use levels::table::Entry;
 use levels::table::LevelTable;
-use refusal::Layer;
-use refusal::Reason;
+use refusal::check_length;
 use refusal::Refusal;
 use rules::RuleSource;
 
@@ -22,14 +21,9 @@ use rules::RuleSource;
 pub fn can_make<S: RuleSource, L: Level>(source: &S, marks: &[u8], levels: &LevelTable<L>) -> Result<(), Refusal>
     ensures value { λ r. ⌜ r ≡ fitting (meaning (now (source .entry)) .atoms) (length (now (marks .entry))) (length (now (now (levels .entry) .entries))) ⌝ }
 {
-    let n = usize::from(source.atoms());
-    if marks.len() != n {
-        return Err(refuse_length(marks.len()));
-    }
-    if levels.len() != n {
-        return Err(refuse_length(levels.len()));
-    }
-    Ok(())
+    let n = source.atoms();
+    check_length(n, marks.len())?;
+    check_length(n, levels.len())
 }
 
 // Can a survey be made of these tables from a certificate?
@@ -88,15 +82,5 @@ fn put_entry<L: Level>(levels: &mut LevelTable<L>, atom: u16, entry: Entry<L>)
 {
     if let Entry::Holds(level) = entry {
         levels.put(atom, level);
-    }
-}
-
-fn refuse_length(found: usize) -> Refusal
-    ensures value { λ r. ⌜ r ≡ wrong-length found ⌝ }
-{
-    Refusal {
-        reason: Reason::TableLength,
-        layer: Layer::Survey,
-        place: found,
     }
 }

@@ -1,0 +1,5 @@
+pub mod Grounded
+pub mod Marked
+pub mod Steps
+pub mod Support
+pub mod Tables
