@@ -1,5 +1,7 @@
 -- The number of each reason and the letter of each layer. Assumes nothing.
+use mathlib.Core.List.{List}
 use Prim.Native.Nat.{ℕ}
+use lib.Chars.{codes}
 use Rattle.refusal.specs.declared.Reason.{Reason}
 use Rattle.refusal.specs.declared.Reason.the-variants.{Cut, Kind, Length, Limit, Atom, Order, BothParts, RuleCount, Trailing, LevelKind, AtomCount, TableLength, MarkByte, CallAtom, Unmarked, Rounds, RecordCount, Output}
 use Rattle.refusal.specs.declared.Layer.{Layer}
@@ -25,10 +27,9 @@ number-of Rounds = 16
 number-of RecordCount = 17
 number-of Output = 18
 
--- P, C, R, S and W, by their codes
-abbrev pub letter-of : Layer → ℕ
-letter-of Program = 80
-letter-of Certificate = 67
-letter-of Source = 82
-letter-of Survey = 83
-letter-of Writer = 87
+abbrev pub letter-of : Layer → List ℕ
+letter-of Program = codes "P"
+letter-of Certificate = codes "C"
+letter-of Source = codes "R"
+letter-of Survey = codes "S"
+letter-of Writer = codes "W"

@@ -91,15 +91,15 @@ impl Reason {
 
 impl Layer {
     // The letter by which a layer is printed.
-    pub fn letter(self) -> char
-        ensures value { λ r. ⌜ r ≡ letter-of self ⌝ }
+    pub fn letter(self) -> &'static str
+        ensures value { λ r. ⌜ now r ≡ letter-of self ⌝ }
     {
         match self {
-            Layer::Program => 'P',
-            Layer::Certificate => 'C',
-            Layer::Source => 'R',
-            Layer::Survey => 'S',
-            Layer::Writer => 'W',
+            Layer::Program => "P",
+            Layer::Certificate => "C",
+            Layer::Source => "R",
+            Layer::Survey => "S",
+            Layer::Writer => "W",
         }
     }
 }
