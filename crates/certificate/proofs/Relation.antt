@@ -15,6 +15,7 @@ use Rattle.std.specs.declared.option.Option.{Option}
 use Rattle.std.specs.declared.option.Option.the-variants.{Some, None}
 use Rattle.std.specs.declared.result.Result.{Result}
 use Rattle.std.specs.declared.result.Result.the-variants.{Ok, Err}
+use Rattle.refusal.specs.Results.{err-not-ok, passed}
 use Rattle.refusal.specs.declared.Reason.the-variants.{Kind, Length, Limit, LevelKind, AtomCount}
 use Rattle.refusal.specs.declared.Refusal.{Refusal}
 use Rattle.records.specs.Words.{two-bytes, header-of, word-at}
@@ -30,7 +31,7 @@ use Rattle.certificate.specs.Relation.{ReadsExactly}
 use Rattle.certificate.specs.declared.Claim.{Claim}
 use Rattle.certificate.specs.declared.Opened.the-variants.{End, ClaimRecord}
 use Rattle.certificate.proofs.Claims.{claims-by, Ends, Goes, turn}
-use Rattle.certificate.proofs.Standing.{err-not-ok, passed, opened-from-claim, claim-here, opened-from-end, end-here, ended-from, ended-so, no-fault, sound-so}
+use Rattle.certificate.proofs.Standing.{opened-from-claim, claim-here, opened-from-end, end-here, ended-from, ended-so, no-fault, sound-so}
 use Rattle.certificate.proofs.Encoded.{contents, claim-of-bytes, written-here, claim-bytes-read}
 
 -- THE HEAD
@@ -55,7 +56,7 @@ module _ (n : ℕ) (bytes : List ℕ) (kind : ℕ) where
   numbers-read header None b first second is = absurd (err-not-ok is)
   numbers-read header (Some m) None first second is = absurd (err-not-ok is)
   numbers-read header (Some m) (Some k) first second is =
-      let both = passed (eqb m n) (Ok k) (refusal-at AtomCount 0) kind is in
+      let both = passed (eqb m n) err-not-ok is in
       let same : k ≡ kind = let found = both .1 in cc in
       record { header = header; atoms-there = first ∙ ap Some (eqb-true m n (both .0)); kind-there = second ∙ ap Some same }
 
@@ -63,15 +64,15 @@ module _ (n : ℕ) (bytes : List ℕ) (kind : ℕ) where
   head-by-header None header is = absurd (err-not-ok is)
   head-by-header (Some x) header is =
       let numbers = by-numbers n (word-at bytes 4) (word-at bytes 6) in
-      let first = passed (eqb (x .kind) 17) (cond (eqb (x .length) 4) numbers (refuse Length 0)) (refusal-at Kind 0) kind is in
-      let second = passed (eqb (x .length) 4) numbers (refusal-at Length 0) kind (first .1) in
+      let first = passed (eqb (x .kind) 17) err-not-ok is in
+      let second = passed (eqb (x .length) 4) err-not-ok (first .1) in
       let there : header-of bytes ≡ Some (record { length = 4; kind = 17 }) =
       header ∙ ap (λ m. Some (record { length = m; kind = x .kind })) (eqb-true (x .length) 4 (second .0)) ∙ ap (λ m. Some (record { length = 4; kind = m })) (eqb-true (x .kind) 17 (first .0)) in
       numbers-read there (word-at bytes 4) (word-at bytes 6) refl refl (second .1)
 
   head-read : stated-kind n bytes ≡ Ok kind → (length bytes ≤ 65000) × HeadRead n bytes kind
   head-read is =
-      let sized = passed (leb (length bytes) 65000) (by-head-header n bytes (header-of bytes)) (refusal-at Limit 0) kind is in
+      let sized = passed (leb (length bytes) 65000) err-not-ok is in
       (leb-true (length bytes) 65000 (sized .0), head-by-header (header-of bytes) refl (sized .1))
 
   -- the first eight bytes are the head's
@@ -183,7 +184,7 @@ module _ {L : Type 0} (width : ℕ) (encode : L → List ℕ) (decode : List ℕ
     file-read : (bytes : List ℕ) → Bytes bytes → (o : Result ℕ Refusal) → stated-kind n bytes ≡ o → by-kind width decode n kind bytes o ≡ Ok cs → Storable encode n kind cs × (bytes ≡ encoding encode n kind cs)
     file-read bytes small (Err e) at is = absurd (err-not-ok is)
     file-read bytes small (Ok k) at is =
-        let both = passed (eqb k kind) (claims-from width decode n n 0 (drop 8 bytes) 8) (refusal-at LevelKind 0) cs is in
+        let both = passed (eqb k kind) err-not-ok is in
         let head = head-read n bytes kind (at ∙ ap Ok (eqb-true k kind (both .0))) in
         let read = claims-read n 0 (drop 8 bytes) 8 cs (all-drop (λ b. b < 256) 8 bytes small) (both .1) in
         let same : bytes ≡ encoding encode n kind cs = head-bytes-read n bytes kind small (head .1) ∙ ap (λ t. head-bytes n kind ++ t) (read .written) in (

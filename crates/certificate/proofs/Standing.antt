@@ -11,6 +11,7 @@ use Rattle.std.specs.declared.option.Option.{Option}
 use Rattle.std.specs.declared.option.Option.the-variants.{Some, None}
 use Rattle.std.specs.declared.result.Result.{Result}
 use Rattle.std.specs.declared.result.Result.the-variants.{Ok, Err}
+use Rattle.refusal.specs.Results.{err-not-ok, some-not-none, passed}
 use Rattle.refusal.specs.declared.Reason.{Reason}
 use Rattle.refusal.specs.declared.Reason.the-variants.{Cut, Kind, Length, Atom, Order, Trailing}
 use Rattle.refusal.specs.declared.Refusal.{Refusal}
@@ -19,20 +20,6 @@ use Rattle.records.specs.declared.Header.{Header}
 use Rattle.rules.specs.Program.{within}
 use Rattle.certificate.specs.Reading.{refusal-at, refuse, claim-length, opened-claim, by-header, opened, atom-fault, ended}
 use Rattle.certificate.specs.declared.Opened.the-variants.{End, ClaimRecord}
-
--- TESTS
-
-pub err-not-ok : {X : Type 0} {e : Refusal} {x : X} → Err e ≡ Ok x → ⊥
-err-not-ok is = let z : _≡_ {A = ℕ} 0 1 = cc in omega arith
-
--- what passes a test, where the other way refuses
-pub passed : {X : Type 0} (b : Bool) (r : Result X Refusal) (e : Refusal) (x : X) → cond b r (Err e) ≡ Ok x → (b ≡ true) × (r ≡ Ok x)
-passed true r e x is = (refl, is)
-passed false r e x is = absurd (err-not-ok is)
-
-none-passed : (b : Bool) (o : Option Reason) (why : Reason) → cond b o (Some why) ≡ None → (b ≡ true) × (o ≡ None)
-none-passed true o why is = (refl, is)
-none-passed false o why is = absurd (let z : _≡_ {A = ℕ} 0 1 = cc in omega arith)
 
 -- A CLAIM'S RECORD
 
@@ -51,8 +38,8 @@ module _ (width : ℕ) (rest : List ℕ) (place size : ℕ) where
 
   claim-opened : (s : ℕ) → header-of rest ≡ Some (record { length = s; kind = 18 }) → opened-claim width rest place s ≡ Ok (ClaimRecord size) → ClaimHere width rest size
   claim-opened s header is =
-      let long = passed (claim-length width s) (cond (leb (4 + s) (length rest)) (Ok (ClaimRecord s)) (refuse Cut place)) (refusal-at Length place) (ClaimRecord size) is in
-      let whole = passed (leb (4 + s) (length rest)) (Ok (ClaimRecord s)) (refusal-at Cut place) (ClaimRecord size) (long .1) in
+      let long = passed (claim-length width s) err-not-ok is in
+      let whole = passed (leb (4 + s) (length rest)) err-not-ok (long .1) in
       let same : s ≡ size = let found = whole .1 in cc in
       record {
         header = header ∙ ap (λ n. Some (record { length = n; kind = 18 })) same;
@@ -67,8 +54,8 @@ module _ (width : ℕ) (rest : List ℕ) (place size : ℕ) where
       by-kind : (b : Bool) → eqb (h .kind) 18 ≡ b → cond b (opened-claim width rest place (h .length)) (cond (eqb (h .kind) 3) (cond (eqb (h .length) 0) (Ok End) (refuse Length place)) (refuse Kind place)) ≡ Ok (ClaimRecord size) → ClaimHere width rest size
       by-kind true kind is = claim-opened (h .length) (header ∙ ap (λ n. Some (record { length = h .length; kind = n })) (eqb-true (h .kind) 18 kind)) is
       by-kind false kind is =
-          let third = passed (eqb (h .kind) 3) (cond (eqb (h .length) 0) (Ok End) (refuse Length place)) (refusal-at Kind place) (ClaimRecord size) is in
-          let last = passed (eqb (h .length) 0) (Ok End) (refusal-at Length place) (ClaimRecord size) (third .1) .1 in
+          let third = passed (eqb (h .kind) 3) err-not-ok is in
+          let last = passed (eqb (h .length) 0) err-not-ok (third .1) .1 in
           absurd (let z : _≡_ {A = ℕ} 0 1 = cc in omega arith)
 
   pub claim-here : opened width rest place ≡ Ok (ClaimRecord size) → ClaimHere width rest size
@@ -82,8 +69,8 @@ module _ (width : ℕ) (rest : List ℕ) (place : ℕ) where
 
   claim-not-end : (s : ℕ) → opened-claim width rest place s ≡ Ok End → ⊥
   claim-not-end s is =
-      let long = passed (claim-length width s) (cond (leb (4 + s) (length rest)) (Ok (ClaimRecord s)) (refuse Cut place)) (refusal-at Length place) End is in
-      let whole = passed (leb (4 + s) (length rest)) (Ok (ClaimRecord s)) (refusal-at Cut place) End (long .1) .1 in
+      let long = passed (claim-length width s) err-not-ok is in
+      let whole = passed (leb (4 + s) (length rest)) err-not-ok (long .1) .1 in
       let z : _≡_ {A = ℕ} 0 1 = cc in omega arith
 
   end-by-header : (o : Option Header) → by-header width rest place o ≡ Ok End → o ≡ Some (record { length = 0; kind = 3 })
@@ -93,8 +80,8 @@ module _ (width : ℕ) (rest : List ℕ) (place : ℕ) where
       by-kind : (b : Bool) → cond b (opened-claim width rest place (h .length)) (cond (eqb (h .kind) 3) (cond (eqb (h .length) 0) (Ok End) (refuse Length place)) (refuse Kind place)) ≡ Ok End → Some h ≡ Some (record { length = 0; kind = 3 })
       by-kind true is = absurd (claim-not-end (h .length) is)
       by-kind false is =
-          let third = passed (eqb (h .kind) 3) (cond (eqb (h .length) 0) (Ok End) (refuse Length place)) (refusal-at Kind place) End is in
-          let last = passed (eqb (h .length) 0) (Ok End) (refusal-at Length place) End (third .1) in
+          let third = passed (eqb (h .kind) 3) err-not-ok is in
+          let last = passed (eqb (h .length) 0) err-not-ok (third .1) in
           ap (λ n. Some (record { length = n; kind = h .kind })) (eqb-true (h .length) 0 (last .0)) ∙ ap (λ n. Some (record { length = 0; kind = n })) (eqb-true (h .kind) 3 (third .0))
 
   pub end-here : opened width rest place ≡ Ok End → header-of rest ≡ Some (record { length = 0; kind = 3 })
@@ -105,7 +92,7 @@ module _ (rest : List ℕ) (place : ℕ) where
   ended-from last = cond-true (eqb (length rest) 4) (Ok tt) (refuse Trailing (place + 4)) (eq-eqb (length rest) 4 last)
 
   pub ended-so : (u : Unit {0}) → ended rest place ≡ Ok u → length rest ≡ 4
-  ended-so u is = eqb-true (length rest) 4 (passed (eqb (length rest) 4) (Ok tt) (refusal-at Trailing (place + 4)) u is .0)
+  ended-so u is = eqb-true (length rest) 4 (passed (eqb (length rest) 4) err-not-ok is .0)
 
 -- THE ATOM OF A CLAIM
 
@@ -117,5 +104,5 @@ module _ (n last atom : ℕ) where
 
   pub sound-so : atom-fault n last atom ≡ None → (within n atom ≡ true) × (ltb last atom ≡ true)
   sound-so is =
-      let first = none-passed (within n atom) (cond (ltb last atom) None (Some Order)) Atom is in
-      (first .0, none-passed (ltb last atom) None Order (first .1) .0)
+      let first = passed (within n atom) some-not-none is in
+      (first .0, passed (ltb last atom) some-not-none (first .1) .0)

@@ -4,13 +4,13 @@ use mathlib.Core.Bool.{Bool, true, false, not, _&&_, _||_}
 use mathlib.Core.List.{List, [], _∷_}
 use Prim.Native.Nat.{ℕ, _≤_, _<_}
 use native.Mathlib.Omega.{arith}
-use lib.Dec.{eqb, ltb}
+use lib.Dec.{ltb}
 use lib.ListN.{length}
 use Rattle.std.proofs.shelf.Tests.{ltb-true, ne-eqb, eq-eqb, and-parts}
 use Rattle.records.specs.Words.{words}
 use Rattle.records.proofs.Words.{tail-of, words-more, words-none}
 use Rattle.rules.specs.Program.{ascends-above, ascending, disjoint}
-use Rattle.rules.specs.Tests.{all, member}
+use Rattle.rules.specs.Tests.{member}
 use Rattle.program.proofs.Walks.{here}
 
 -- an ascending list lies above its bound
@@ -21,7 +21,7 @@ not-member a low (y ∷ ys) h asc =
     let less : low < y = ltb-true low y (both .0) in
     ap (λ b. b || member a ys) (ne-eqb a y (λ e. omega arith)) ∙ not-member a y ys (omega arith) (both .1)
 
--- a number at or below the bound is in no way of an ascending list
+-- a number at or below the bound is not in an ascending list, so it changes nothing
 pub disjoint-below : (b low : ℕ) (ys xs : List ℕ) → b ≤ low → ascends-above low xs ≡ true → disjoint xs (b ∷ ys) ≡ disjoint xs ys
 disjoint-below b low ys [] h asc = refl
 disjoint-below b low ys (x ∷ xs) h asc =
@@ -55,9 +55,6 @@ pub record Apart (xs ys : List ℕ) (answer : Bool) : Type 0 where
   pub so-far : disjoint (words xs) (words ys) ≡ answer
 
 module _ (xs ys : List ℕ) (answer : Bool) (apart : Apart xs ys answer) where
-  pub apart-no-left : length xs < 2 → true ≡ answer
-  apart-no-left h = ap (λ t. disjoint t (words ys)) (sym (words-none xs h)) ∙ apart .so-far
-
   pub apart-no-right : length ys < 2 → true ≡ answer
   apart-no-right h = sym (disjoint-none (words xs)) ∙ (ap (disjoint (words xs)) (sym (words-none ys h)) ∙ apart .so-far)
 

@@ -5,16 +5,15 @@ use Prim.Native.Nat.{ℕ, suc, _+_, _-_, _*_, _/_, _≤_, _<_}
 use native.Mathlib.Omega.{arith}
 use lib.ListN.{length, take, drop}
 use Rattle.std.specs.shelf.Lists.{between}
-use Rattle.std.proofs.shelf.Lists.{append-assoc, length-append, length-take, length-drop, take-append-drop, take-take, take-at, drop-at, drop-drop, drop-take}
+use Rattle.std.proofs.shelf.Lists.{append-assoc, length-append, length-drop, take-append-drop, take-take, take-at, drop-at, drop-drop, drop-take}
 use Rattle.std.proofs.shelf.Elements.{all-take, all-drop}
 use Rattle.std.specs.Options.{valueOr}
 use Rattle.records.specs.Words.{words, two-bytes, word-bytes, record-bytes, word-at}
-use Rattle.records.specs.Lengths.{length-words}
 use Rattle.records.proofs.Encoded.{Bytes, word-of-two, length-word-bytes, word-bytes-append, words-word-bytes, word-bytes-words, first-word-bytes, first-word-there, first-two, header-of-record, record-here}
 use Rattle.rules.specs.Program.{Rule, LawfulRule}
 use Rattle.program.specs.Encoding.{rule-bytes}
 use Rattle.program.specs.Reading.{rule-of}
-use Rattle.program.proofs.Opened.{RuleHere}
+use Rattle.program.specs.Here.{RuleHere, positive-bytes-length, negative-bytes-length, positive-length}
 
 -- the numbers in a rule's record
 abbrev pub rule-words : Rule → List ℕ
@@ -67,11 +66,10 @@ module _ (r : Rule) (tail : List ℕ) where
       let few = law .few-atoms in
       record {
         header = header-of-record 2 (word-bytes (rule-words r)) tail;
-        two-words = omega arith;
-        few-atoms = omega arith;
-        even = omega arith;
         whole = omega (arith, length-append (word-bytes (rule-words r)) tail);
-        count = first-word-bytes (length (r .positive)) (word-bytes (r .positive ++ r .negative) ++ tail);
+        even = omega arith;
+        short = omega arith;
+        count-word = first-word-bytes (length (r .positive)) (word-bytes (r .positive ++ r .negative) ++ tail);
         counted = omega arith;
       }
 
@@ -84,19 +82,6 @@ module _ (rest : List ℕ) (size k : ℕ) (small : Bytes rest) (here : RuleHere 
 
   abbrev right : List ℕ
   right = between (8 + 2 * k) (4 + size) rest
-
-  length-left : length left ≡ 2 * k
-  length-left =
-      let whole = here .whole in
-      let counted = here .counted in
-      simp (length-take, length-drop) (omega arith)
-
-  length-right : length right ≡ 2 * ((size - 4 - 2 * k) / 2)
-  length-right =
-      let whole = here .whole in
-      let counted = here .counted in
-      let even = here .even in
-      simp (length-take, length-drop) (omega arith)
 
   parts-joined : left ++ right ≡ take (size - 4) (drop 8 rest)
   parts-joined =
@@ -115,34 +100,29 @@ module _ (rest : List ℕ) (size k : ℕ) (small : Bytes rest) (here : RuleHere 
       let small-left = all-take (λ b. b < 256) ((8 + 2 * k) - 8) (drop 8 rest) (all-drop (λ b. b < 256) 8 rest small) in
       let small-right = all-take (λ b. b < 256) ((4 + size) - (8 + 2 * k)) (drop (8 + 2 * k) rest) (all-drop (λ b. b < 256) (8 + 2 * k) rest small) in
       word-bytes-append (words left) (words right)
-      ∙ ap (λ t. t ++ word-bytes (words right)) (word-bytes-words k left length-left small-left)
-      ∙ ap (λ t. left ++ t) (word-bytes-words ((size - 4 - 2 * k) / 2) right length-right small-right)
+      ∙ ap (λ t. t ++ word-bytes (words right)) (word-bytes-words k left (positive-bytes-length rest size k here) small-left)
+      ∙ ap (λ t. left ++ t) (word-bytes-words ((size - 4) / 2 - k) right (negative-bytes-length rest size k here) small-right)
       ∙ parts-joined
 
   -- the head and the count stand before the atoms
   two-words-first : drop 4 rest ≡ two-bytes (valueOr (word-at rest 4) 0) ++ (two-bytes k ++ drop 8 rest)
   two-words-first =
       let whole = here .whole in
-      let long = here .two-words in
+      let counted = here .counted in
       let there : 2 ≤ length (drop 4 rest) = simp length-drop (omega arith) in
       first-two (drop 4 rest) (valueOr (word-at rest 4) 0) (all-drop (λ b. b < 256) 4 rest small) (first-word-there (drop 4 rest) there)
       ∙ ap (λ t. two-bytes (valueOr (word-at rest 4) 0) ++ t)
-      (drop-drop 2 4 rest ∙ first-two (drop 6 rest) k (all-drop (λ b. b < 256) 6 rest small) (here .count) ∙ ap (λ t. two-bytes k ++ t) (drop-drop 2 6 rest))
+      (drop-drop 2 4 rest ∙ first-two (drop 6 rest) k (all-drop (λ b. b < 256) 6 rest small) (here .count-word) ∙ ap (λ t. two-bytes k ++ t) (drop-drop 2 6 rest))
 
   contents-read : take size (drop 4 rest) ≡ word-bytes (rule-words (rule-of rest size k))
   contents-read =
       let head = valueOr (word-at rest 4) 0 in
-      let long = here .two-words in
+      let counted = here .counted in
       let four : size ≡ suc (suc (suc (suc (size - 4)))) = omega arith in
       ap (take size) two-words-first
       ∙ ap (λ n. take n (two-bytes head ++ (two-bytes k ++ drop 8 rest))) four
       ∙ ap (λ t. two-bytes head ++ (two-bytes k ++ t)) (sym parts-bytes)
-      ∙ ap (λ n. two-bytes head ++ (two-bytes n ++ word-bytes (words left ++ words right))) (sym (length-words k left length-left))
+      ∙ ap (λ n. two-bytes head ++ (two-bytes n ++ word-bytes (words left ++ words right))) (sym (positive-length rest size k here))
 
   pub rule-bytes-read : rest ≡ rule-bytes (rule-of rest size k) ++ drop (4 + size) rest
   rule-bytes-read = record-here rest size 2 small (here .header) (here .whole) ∙ ap (λ t. record-bytes 2 t ++ drop (4 + size) rest) contents-read
-
-  pub few-atoms-read : length (rule-of rest size k .positive) + length (rule-of rest size k .negative) ≤ 255
-  few-atoms-read =
-      let few = here .few-atoms in
-      omega (arith, length-words k left length-left, length-words ((size - 4 - 2 * k) / 2) right length-right)

@@ -3,30 +3,31 @@ use mathlib.Core.Path.{_≡_, refl, sym, ap, subst, _∙_}
 use mathlib.Core.Bool.{Bool, true, false, cond}
 use mathlib.Core.List.{List, [], _∷_}
 use mathlib.Core.Logic.{⊎-elim}
-use Prim.Native.Nat.{ℕ, zero, suc, _+_, _-_, _*_, _/_, _≤_, _<_}
+use Prim.Native.Nat.{ℕ, zero, suc, _+_, _-_, _*_, _/_, _≤_}
 use native.Mathlib.Nat.{add-zero}
 use native.Mathlib.Omega.{arith}
 use lib.Dec.{eqb, leb, ltb}
 use lib.ListN.{length, take, drop, getD, set, replicate, length-set, length-replicate, length-drop}
 use Rattle.std.proofs.shelf.Lists.{drop-drop}
 use Rattle.std.proofs.shelf.Maps.{nth-getD, nth-past}
-use Rattle.std.proofs.shelf.Tests.{leb-true, leb-false, le-leb, ne-eqb, and-parts, and-from, and-cases, cond-true, cond-false}
+use Rattle.std.proofs.shelf.Tests.{leb-true, leb-false, ne-eqb, and-parts, and-cases, cond-true, cond-false}
 use Rattle.std.specs.Finite.{nth}
 use Rattle.std.specs.Options.{mapped, valueOr}
 use Rattle.std.specs.Results.{isOk}
 use Rattle.std.specs.declared.option.Option.{Option}
 use Rattle.std.specs.declared.option.Option.the-variants.{Some, None}
-use Rattle.std.specs.declared.result.Result.the-variants.{Ok}
 use Rattle.records.specs.Words.{words, first-word, word-at}
-use Rattle.records.proofs.Words.{nth-part, some-word}
+use Rattle.refusal.specs.Results.{some-not-none}
+use Rattle.records.proofs.Words.{nth-part}
+use Rattle.records.proofs.Encoded.{first-word-there, first-word-of-header}
 use Rattle.rules.specs.Program.{Rule, Program, within}
-use Rattle.rules.specs.Questions.{rule-at, head-at, in-part, positive-at, negative-at}
-use Rattle.program.specs.Reading.{rule-of, program-in, read-or-empty}
+use Rattle.rules.specs.Questions.{rule-at, in-part}
+use Rattle.program.specs.Reading.{program-in, read-or-empty}
 use Rattle.program.specs.Index.{rule-size, with-starts, index-of}
-use Rattle.program.specs.Stored.{number-in, stored-head, by-positive, stored-positive, by-negative, stored-negative}
-use Rattle.program.specs.Lawful.{Parts, parts-of, rules-lawful}
-use Rattle.program.specs.Here.{RuleHere}
+use Rattle.program.specs.Stored.{stored-head, by-positive, stored-positive, by-negative, stored-negative}
+use Rattle.program.specs.Lawful.{Parts, parts-of, parts-sound}
 use Rattle.program.specs.declared.reader.Index.{Index}
+use Rattle.program.proofs.Walks.{within-from}
 use Rattle.program.proofs.Starts.{StandsAt, stands, ok-program}
 
 length-starts : (rules : List Rule) (starts : List ℕ) (k place : ℕ) → length (with-starts starts k place rules) ≡ length starts
@@ -48,7 +49,7 @@ module _ (bytes : List ℕ) (ok : isOk (program-in bytes) ≡ true) where
   the-parts = parts-of bytes the-program (ok-program (program-in bytes) ok)
 
   few-rules : length (the-program .rules) ≤ 8000
-  few-rules = rules-lawful 8000 (the-parts .head .atoms) (the-parts .head .rules) 0 (drop 8 bytes) 8 (the-program .rules) (the-parts .rules-read) .1
+  few-rules = parts-sound bytes the-program the-parts .1
 
   many-starts : length the-starts ≡ 8000
   many-starts = length-starts (the-program .rules) (replicate 8000 0) 0 8 ∙ length-replicate {A = ℕ} 8000 0
@@ -56,7 +57,7 @@ module _ (bytes : List ℕ) (ok : isOk (program-in bytes) ≡ true) where
   at-rule : (rule : ℕ) → 1 ≤ rule → rule ≤ length (the-program .rules) → StandsAt bytes (getD the-starts (rule - 1) 0) (rule-at the-program rule)
   at-rule rule low high =
       let found = stands bytes (the-parts .head .atoms) (the-parts .head .rules) 8000 0 8 (replicate 8000 0) (the-program .rules) (the-parts .rules-read)
-        (omega (arith, few-rules, length-replicate {A = ℕ} 8000 0)) (rule - 1) (omega arith) in
+      (omega (arith, few-rules, length-replicate {A = ℕ} 8000 0)) (rule - 1) (omega arith) in
       let zero-first : 0 + (rule - 1) ≡ rule - 1 = omega arith in
       let moved = subst (λ i. StandsAt bytes (getD the-starts i 0) (nth (the-program .rules) (rule - 1))) zero-first found in
       let not-zero : eqb rule 0 ≡ false = ne-eqb rule 0 (λ e. omega arith) in
@@ -64,7 +65,7 @@ module _ (bytes : List ℕ) (ok : isOk (program-in bytes) ≡ true) where
 
   inside : (rule : ℕ) → 1 ≤ rule → rule ≤ length (the-program .rules) → start-in (index-of the-program) rule ≡ Some (getD the-starts (rule - 1) 0)
   inside rule low high =
-      cond-true (within (length (the-program .rules)) rule) (nth the-starts (rule - 1)) None (and-from (leb 1 rule) (leb rule (length (the-program .rules))) (le-leb 1 rule low) (le-leb rule (length (the-program .rules)) high))
+      cond-true (within (length (the-program .rules)) rule) (nth the-starts (rule - 1)) None (within-from (length (the-program .rules)) rule low high)
       ∙ nth-getD the-starts (rule - 1) 0 (omega (arith, many-starts, few-rules))
 
   -- a rule past the list is absent, and so is rule 0
@@ -73,7 +74,7 @@ module _ (bytes : List ℕ) (ok : isOk (program-in bytes) ≡ true) where
   no-rule (suc rule) out =
       ⊎-elim (λ (low : leb 1 (suc rule) ≡ false). absurd (omega (arith, leb-false 1 (suc rule) low)))
       (λ (high : leb (suc rule) (length (the-program .rules)) ≡ false). cond-false (eqb (suc rule) 0) None (nth (the-program .rules) (suc rule - 1)) (ne-eqb (suc rule) 0 (λ e. omega arith))
-        ∙ nth-past (the-program .rules) (suc rule - 1) (omega (arith, leb-false (suc rule) (length (the-program .rules)) high)))
+      ∙ nth-past (the-program .rules) (suc rule - 1) (omega (arith, leb-false (suc rule) (length (the-program .rules)) high)))
       (and-cases (leb 1 (suc rule)) (leb (suc rule) (length (the-program .rules))) out)
 
   by-within : (rule : ℕ) (start : ℕ) (b : Bool) → within (length (the-program .rules)) rule ≡ b → Some start ≡ start-in (index-of the-program) rule → StandsAt bytes start (rule-at the-program rule)
@@ -86,13 +87,13 @@ module _ (bytes : List ℕ) (ok : isOk (program-in bytes) ≡ true) where
       subst (λ s. StandsAt bytes s (rule-at the-program rule)) same (at-rule rule low high)
   by-within rule start false is given =
       let none : Some start ≡ None = given ∙ cond-false (within (length (the-program .rules)) rule) (nth the-starts (rule - 1)) None is in
-      absurd (let z : _≡_ {A = ℕ} 0 1 = cc in omega arith)
+      absurd (some-not-none none)
 
   absent : (rule : ℕ) (b : Bool) → within (length (the-program .rules)) rule ≡ b → None ≡ start-in (index-of the-program) rule → rule-at the-program rule ≡ None
   absent rule true is given =
       let bounds = and-parts (leb 1 rule) (leb rule (length (the-program .rules))) is in
       let some : None ≡ Some (getD the-starts (rule - 1) 0) = given ∙ inside rule (leb-true 1 rule (bounds .0)) (leb-true rule (length (the-program .rules)) (bounds .1)) in
-      absurd (let z : _≡_ {A = ℕ} 0 1 = cc in omega arith)
+      absurd (some-not-none (sym some))
   absent rule false is given = no-rule rule is
 
   module _ (index : Index) (is : index ≡ index-of the-program) (rule : ℕ) where
@@ -114,7 +115,7 @@ module _ (bytes : List ℕ) (start : ℕ) (rule : Option Rule) (at : StandsAt by
   pub head-answer : stored-head bytes start ≡ mapped (λ r. r .head) rule
   head-answer =
       sym (moved 4)
-      ∙ some-word (drop 4 (drop start bytes)) (simp length-drop (omega (arith, simp length-drop at (at .here .whole), at .here .counted)))
+      ∙ first-word-there (drop 4 (drop start bytes)) (simp length-drop (omega (arith, simp length-drop at (at .here .whole), at .here .counted)))
       ∙ ap (mapped (λ r. r .head)) (sym (at .is))
 
   pub positive-answer : (i : ℕ) → stored-positive bytes start i ≡ in-part (mapped (λ r. r .positive) rule) i
@@ -133,7 +134,7 @@ module _ (bytes : List ℕ) (start : ℕ) (rule : Option Rule) (at : StandsAt by
       let size = at .size in
       let many = (size - 4) / 2 - k in
       let two : (4 + size) - (8 + 2 * k) ≡ 2 * many = omega (arith, at .here .counted, at .here .even) in
-      let first : word-at bytes start ≡ Some size = ap (λ m. word-at bytes m) (sym (add-zero start)) ∙ sym (moved 0) ∙ at .here .size-word in
+      let first : word-at bytes start ≡ Some size = ap (λ m. word-at bytes m) (sym (add-zero start)) ∙ sym (moved 0) ∙ first-word-of-header (drop start bytes) (record { length = size; kind = 2 }) (at .here .header) in
       ap (λ o. by-negative bytes start i o (word-at bytes (start + 6))) first
       ∙ ap (by-negative bytes start i (Some size)) (sym (moved 6) ∙ at .here .count-word)
       ∙ ap (λ o. cond (ltb i many) o None) (sym (further (8 + 2 * k) (2 * i)))

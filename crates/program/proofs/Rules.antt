@@ -13,6 +13,7 @@ use Rattle.std.specs.declared.result.Result.the-variants.{Ok, Err}
 use Rattle.refusal.specs.declared.Reason.{Reason}
 use Rattle.refusal.specs.declared.Reason.the-variants.{Limit}
 use Rattle.refusal.specs.declared.Refusal.{Refusal}
+use Rattle.refusal.specs.Results.{err-not-ok}
 use Rattle.rules.specs.Program.{Rule}
 use Rattle.program.specs.Reading.{refusal-at, refuse, opened, rule-of, atoms-fault, checked, ended, after-end, after-rule, by-fault, last-record, next-record, rules-from}
 use Rattle.program.specs.Index.{rule-size, with-starts, indexed-from}
@@ -40,31 +41,30 @@ module _ (n stated count : ℕ) (rest : List ℕ) (place : ℕ) where
     rules-full = ap (last-record stated rest place count) is
 
     pub rules-step : (room : ℕ) → rules-from (suc room) n stated count rest place
-      ≡ by-fault place (rule-of rest size k) (rules-from room n stated (count + 1) (drop (4 + size) rest) (place + (4 + size))) (atoms-fault n (rule-of rest size k))
+        ≡ by-fault place (rule-of rest size k) (rules-from room n stated (count + 1) (drop (4 + size) rest) (place + (4 + size))) (atoms-fault n (rule-of rest size k))
     unfolding rules-from more
     rules-step room = ap (next-record n stated rest place count (more room)) is
 
 -- what a checked rule gives
 
 fault-refused : (place : ℕ) (r : Rule) (more : Result (List Rule) Refusal) (e : Refusal) (o : Option Reason) → Err e ≡ checked place o → by-fault place r more o ≡ Err e
-fault-refused place r more e None is = absurd (let z : _≡_ {A = ℕ} 0 1 = cc in omega arith)
+fault-refused place r more e None is = absurd (err-not-ok is)
 fault-refused place r more e (Some why) is = let same : refusal-at why place ≡ e = cc in ap Err same
 
 fault-passed : (place : ℕ) (r : Rule) (more : Result (List Rule) Refusal) (u : Unit {0}) (o : Option Reason) → Ok u ≡ checked place o → by-fault place r more o ≡ after-rule r more
 fault-passed place r more u None is = refl
-fault-passed place r more u (Some why) is = absurd (let z : _≡_ {A = ℕ} 0 1 = cc in omega arith)
+fault-passed place r more u (Some why) is = absurd (err-not-ok (sym is))
 
 -- the index, with one more rule
 indexed-more : (n : ℕ) (starts : List ℕ) (count place : ℕ) (r : Rule) (rules : Result (List Rule) Refusal)
-  → indexed-from n starts count place (after-rule r rules) ≡ indexed-from n (set starts count place) (count + 1) (place + rule-size r) rules
+    → indexed-from n starts count place (after-rule r rules) ≡ indexed-from n (set starts count place) (count + 1) (place + rule-size r) rules
 indexed-more n starts count place r (Err e) = refl
 indexed-more n starts count place r (Ok rs) =
     let same : count + length (r ∷ rs) ≡ (count + 1) + length rs = omega arith in
     ap (λ m. Ok (record { atoms = n; count = m; starts = with-starts (set starts count place) (count + 1) (place + rule-size r) rs })) same
 
 module _ (bytes : List ℕ) (n stated : ℕ) (starts : List ℕ) (count place : ℕ) (answer : Result Index Refusal)
-  (inv : indexed-from n starts count place (rules-from (8000 - count) n stated count (drop place bytes) place) ≡ answer) where
-
+    (inv : indexed-from n starts count place (rules-from (8000 - count) n stated count (drop place bytes) place) ≡ answer) where
   -- what is left of the file, as a slice has it
   abbrev pub left-of : List ℕ
   left-of = take (length bytes - place) (drop place bytes)
@@ -94,7 +94,7 @@ module _ (bytes : List ℕ) (n stated : ℕ) (starts : List ℕ) (count place : 
 
     module _ (room : count < 8000) where
       stepped : rules-from (8000 - count) n stated count left-of place
-        ≡ by-fault place (rule-of left-of size k) (rules-from (8000 - (count + 1)) n stated (count + 1) (drop (4 + size) left-of) (place + (4 + size))) (atoms-fault n (rule-of left-of size k))
+          ≡ by-fault place (rule-of left-of size k) (rules-from (8000 - (count + 1)) n stated (count + 1) (drop (4 + size) left-of) (place + (4 + size))) (atoms-fault n (rule-of left-of size k))
       stepped =
           let one : 8000 - count ≡ suc (8000 - (count + 1)) = omega arith in
           ap (λ m. rules-from m n stated count left-of place) one ∙ rules-step n stated count left-of place size k (sym is) (8000 - (count + 1))
@@ -103,12 +103,12 @@ module _ (bytes : List ℕ) (n stated : ℕ) (starts : List ℕ) (count place : 
       turn-fault e bad = given-answer (Err e) (stepped ∙ fault-refused place (rule-of left-of size k) _ e (atoms-fault n (rule-of left-of size k)) bad)
 
       pub turn-rule : (u : Unit {0}) → Ok u ≡ checked place (atoms-fault n (rule-of left-of size k))
-        → indexed-from n (set starts count place) (count + 1) (place + (4 + size)) (rules-from (8000 - (count + 1)) n stated (count + 1) (drop (place + (4 + size)) bytes) (place + (4 + size))) ≡ answer
+          → indexed-from n (set starts count place) (count + 1) (place + (4 + size)) (rules-from (8000 - (count + 1)) n stated (count + 1) (drop (place + (4 + size)) bytes) (place + (4 + size))) ≡ answer
       turn-rule u good =
           let rest = rules-from (8000 - (count + 1)) n stated (count + 1) (drop (place + (4 + size)) bytes) (place + (4 + size)) in
           let beyond : drop (4 + size) left-of ≡ drop (place + (4 + size)) bytes = ap (drop (4 + size)) (take-rest bytes place) ∙ drop-drop (4 + size) place bytes in
           let passed = stepped ∙ fault-passed place (rule-of left-of size k) _ u (atoms-fault n (rule-of left-of size k)) good
-            ∙ ap (λ t. after-rule (rule-of left-of size k) (rules-from (8000 - (count + 1)) n stated (count + 1) t (place + (4 + size)))) beyond in
+          ∙ ap (λ t. after-rule (rule-of left-of size k) (rules-from (8000 - (count + 1)) n stated (count + 1) t (place + (4 + size)))) beyond in
           ap (λ s. indexed-from n (set starts count place) (count + 1) (place + s) rest) (sym (size-of-rule left-of size k (rule-here left-of place size k (sym is))))
           ∙ sym (indexed-more n starts count place (rule-of left-of size k) rest)
           ∙ given-answer (after-rule (rule-of left-of size k) rest) passed

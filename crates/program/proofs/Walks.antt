@@ -1,14 +1,13 @@
 -- One turn of a walk over a part. Assumes nothing.
-use mathlib.Core.Path.{_≡_, refl, sym, ap, _∙_}
-use mathlib.Core.Bool.{Bool, true, false, _&&_}
-use mathlib.Core.List.{List, [], _∷_}
+use mathlib.Core.Path.{_≡_, sym, ap, _∙_}
+use mathlib.Core.Bool.{Bool, true, _&&_}
+use mathlib.Core.List.{List}
 use Prim.Native.Nat.{ℕ, _≤_, _<_}
-use native.Mathlib.Omega.{arith}
-use lib.Dec.{ltb, leb}
+use lib.Dec.{leb}
 use lib.ListN.{length, getD}
 use Rattle.std.proofs.shelf.Tests.{lt-ltb, le-leb, and-from}
 use Rattle.records.specs.Words.{word-of, words}
-use Rattle.records.proofs.Words.{tail-of, words-more, words-none}
+use Rattle.records.proofs.Words.{tail-of, words-more}
 use Rattle.rules.specs.Program.{within, ascends-above}
 use Rattle.rules.specs.Tests.{all}
 

@@ -1,25 +1,22 @@
 -- Proofs: what is read is lawful. Assumes nothing.
 use mathlib.Core.Path.{_≡_, refl, sym, ap, subst, _∙_}
-use mathlib.Core.Bool.{Bool, true, false, cond, _&&_}
-use mathlib.Core.List.{List, [], _∷_}
+use mathlib.Core.List.{List}
 use Prim.Native.Nat.{ℕ, zero, suc, _+_, _≤_}
 use native.Mathlib.Omega.{arith}
-use lib.Dec.{eqb, leb}
+use lib.Dec.{leb}
 use lib.ListN.{length, drop}
-use Rattle.std.proofs.shelf.Tests.{leb-true, and-parts}
+use Rattle.std.proofs.shelf.Tests.{leb-true}
 use Rattle.std.specs.shelf.Lists.{All}
-use Rattle.std.specs.declared.option.Option.{Option}
-use Rattle.std.specs.declared.option.Option.the-variants.{Some, None}
 use Rattle.std.specs.declared.result.Result.{Result}
 use Rattle.std.specs.declared.result.Result.the-variants.{Ok, Err}
 use Rattle.refusal.specs.declared.Refusal.{Refusal}
-use Rattle.records.specs.Words.{header-of, word-at}
-use Rattle.records.specs.declared.Header.{Header}
+use Rattle.refusal.specs.Results.{err-not-ok, passed}
 use Rattle.rules.specs.Program.{Rule, Program, LawfulRule, Lawful}
-use Rattle.program.specs.Reading.{refuse, by-numbers, by-head-header, file-head, rule-of, rules-from, with-atoms, by-head, program-in, read-or-empty}
+use Rattle.program.specs.Reading.{file-head, rules-from, with-atoms, by-head, program-in, read-or-empty}
 use Rattle.program.specs.File.{program-of}
-use Rattle.program.specs.Turns.{Turn, turn-of, none-left, one-more}
-use Rattle.program.specs.Here.{chosen, err-not-ok, rule-here, rule-lawful}
+use Rattle.program.specs.Turns.{turn-of, none-left, one-more}
+use Rattle.program.specs.Here.{rule-here, rule-lawful}
+use Rattle.program.specs.Head.{head-here}
 use Rattle.program.specs.declared.file.ProgramFile.{ProgramFile}
 use Rattle.program.specs.declared.reader.FileHead.{FileHead}
 
@@ -33,16 +30,16 @@ no-room less e = omega arith
 pub rules-lawful : (room n stated count : ℕ) (rest : List ℕ) (place : ℕ) (rules : List Rule) → rules-from room n stated count rest place ≡ Ok rules → Sound n room rules
 rules-lawful zero n stated count rest place rules h =
     elim (turn-of n stated count rest place rules zero h) [
-      none-left none is was ↦ subst (Sound n zero) (sym none) (tt, omega arith)
-    | one-more less size k others room-is is fine was same ↦ absurd (no-room less room-is)
+      | none-left none is was ↦ subst (Sound n zero) (sym none) (tt, omega arith)
+      | one-more less size k others room-is is fine was same ↦ absurd (no-room less room-is)
     ]
 rules-lawful (suc room) n stated count rest place rules h =
     elim (turn-of n stated count rest place rules (suc room) h) [
-      none-left none is was ↦ subst (Sound n (suc room)) (sym none) (tt, omega arith)
-    | one-more less size k others room-is is fine was same ↦
-      let less-is : less ≡ room = omega arith in
-      let later = rules-lawful room n stated (count + 1) (drop (4 + size) rest) (place + (4 + size)) others (subst (λ m. rules-from m n stated (count + 1) (drop (4 + size) rest) (place + (4 + size)) ≡ Ok others) less-is was) in
-      subst (Sound n (suc room)) (sym same) ((rule-lawful n rest size k (rule-here rest place size k is) fine, later .0), omega (arith, later .1))
+      | none-left none is was ↦ subst (Sound n (suc room)) (sym none) (tt, omega arith)
+      | one-more less size k others room-is is fine was same ↦
+          let less-is : less ≡ room = omega arith in
+          let later = rules-lawful room n stated (count + 1) (drop (4 + size) rest) (place + (4 + size)) others (subst (λ m. rules-from m n stated (count + 1) (drop (4 + size) rest) (place + (4 + size)) ≡ Ok others) less-is was) in
+          subst (Sound n (suc room)) (sym same) ((rule-lawful rest size k (rule-here rest place size k is) n fine, later .0), omega (arith, later .1))
     ]
 
 -- the head and the rules that a program was read from
@@ -55,48 +52,37 @@ pub record Parts (bytes : List ℕ) (p : Program) : Type 0 where
 
 module _ (bytes : List ℕ) (p : Program) (small : length bytes ≤ 65000) where
   by-rules : (h : FileHead) → file-head bytes ≡ Ok h → (x : Result (List Rule) Refusal) → rules-from 8000 (h .atoms) (h .rules) 0 (drop 8 bytes) 8 ≡ x → with-atoms (h .atoms) x ≡ Ok p → Parts bytes p
-  by-rules h head-is (Err e) is got = absurd (err-not-ok e p got)
+  by-rules h head-is (Err e) is got = absurd (err-not-ok got)
   by-rules h head-is (Ok rs) is got =
       let same : record { atoms = h .atoms; rules = rs } ≡ p = cc in
       record { head = h; small = small; head-read = head-is; rules-read = is ∙ ap (λ (q : Program). Ok (q .rules)) same; same-atoms = ap (λ (q : Program). q .atoms) same }
 
   by-file-head : (x : Result FileHead Refusal) → file-head bytes ≡ x → by-head bytes x ≡ Ok p → Parts bytes p
-  by-file-head (Err e) is got = absurd (err-not-ok e p got)
+  by-file-head (Err e) is got = absurd (err-not-ok got)
   by-file-head (Ok h) is got = by-rules h is (rules-from 8000 (h .atoms) (h .rules) 0 (drop 8 bytes) 8) refl got
 
 pub parts-of : (bytes : List ℕ) (p : Program) → program-in bytes ≡ Ok p → Parts bytes p
 parts-of bytes p h =
-    let got = chosen (leb (length bytes) 65000) (err-not-ok _ p) h in
+    let got = passed (leb (length bytes) 65000) err-not-ok h in
     by-file-head bytes p (leb-true (length bytes) 65000 (got .0)) (file-head bytes) refl (got .1)
 
-numbers-bound : (h : FileHead) (n k : Option ℕ) → by-numbers n k ≡ Ok h → h .atoms ≤ 4096
-numbers-bound h None k got = absurd (err-not-ok _ h got)
-numbers-bound h (Some n) None got = absurd (err-not-ok _ h got)
-numbers-bound h (Some n) (Some k) got =
-    let fits = chosen (leb n 4096 && leb k 8000) (err-not-ok _ h) got in
-    let same : record { atoms = n; rules = k } ≡ h = cc in
-    omega (arith, leb-true n 4096 (and-parts (leb n 4096) (leb k 8000) (fits .0) .0), ap (λ (x : FileHead). x .atoms) same)
+-- the rules of a program that was read
+pub parts-sound : (bytes : List ℕ) (p : Program) → Parts bytes p → Sound (p .atoms) 8000 (p .rules)
+parts-sound bytes p parts =
+    subst (λ n. Sound n 8000 (p .rules)) (parts .same-atoms) (rules-lawful 8000 (parts .head .atoms) (parts .head .rules) 0 (drop 8 bytes) 8 (p .rules) (parts .rules-read))
 
-header-bound : (bytes : List ℕ) (h : FileHead) (o : Option Header) → by-head-header bytes o ≡ Ok h → h .atoms ≤ 4096
-header-bound bytes h None got = absurd (err-not-ok _ h got)
-header-bound bytes h (Some header) got =
-    let kind = chosen (eqb (header .kind) 1) (err-not-ok _ h) got in
-    let size = chosen (eqb (header .length) 4) (err-not-ok _ h) (kind .1) in
-    numbers-bound h (word-at bytes 4) (word-at bytes 6) (size .1)
-
-pub program-lawful : (bytes : List ℕ) (p : Program) → program-in bytes ≡ Ok p → Lawful p
-program-lawful bytes p h =
-    let parts = parts-of bytes p h in
-    let rules = rules-lawful 8000 (parts .head .atoms) (parts .head .rules) 0 (drop 8 bytes) 8 (p .rules) (parts .rules-read) in
+pub program-lawful : (bytes : List ℕ) (p : Program) → Parts bytes p → Lawful p
+program-lawful bytes p parts =
+    let rules = parts-sound bytes p parts in
     record {
-      atoms-bound = omega (arith, header-bound bytes (parts .head) (header-of bytes) (parts .head-read), parts .same-atoms);
+      atoms-bound = omega (arith, head-here bytes (parts .head) (parts .head-read) .few-atoms, parts .same-atoms);
       rules-bound = omega (arith, rules .1);
-      each-lawful = subst (λ n. All (LawfulRule n) (p .rules)) (parts .same-atoms) (rules .0);
+      each-lawful = rules .0;
     }
 
 read-lawful : (bytes : List ℕ) (r : Result Program Refusal) → program-in bytes ≡ r → Lawful (read-or-empty r)
 read-lawful bytes (Err e) is = record { atoms-bound = omega arith; rules-bound = omega arith; each-lawful = tt }
-read-lawful bytes (Ok p) is = program-lawful bytes p is
+read-lawful bytes (Ok p) is = program-lawful bytes p (parts-of bytes p is)
 
 -- the program that a file stands for is lawful
 pub file-lawful : (f : ProgramFile) → Lawful (program-of f)

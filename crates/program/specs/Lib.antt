@@ -5,5 +5,6 @@ pub mod File
 pub mod Stored
 pub mod Turns
 pub mod Here
+pub mod Head
 pub mod Lawful
 pub mod Relation

@@ -146,3 +146,8 @@ program-in bytes = cond (leb (length bytes) 65000) (by-head bytes (file-head byt
 abbrev pub read-or-empty : Result Program Refusal → Program
 read-or-empty (Ok p) = p
 read-or-empty (Err e) = record { atoms = 0; rules = [] }
+
+-- the number of atoms of the program that was read
+abbrev pub atoms-read : Result Program Refusal → Result ℕ Refusal
+atoms-read (Ok p) = Ok (p .atoms)
+atoms-read (Err e) = Err e

@@ -1,8 +1,7 @@
 // Walks over one part of a rule, as it stands in the file: two bytes for each atom.
 ghost use mathlib.Core.Path.{_≡_};
-ghost use mathlib.Core.Bool.{true};
 ghost use Rattle.records.specs.Words.{words};
-ghost use Rattle.rules.specs.Program.{within, ascends-above, ascending, disjoint};
+ghost use Rattle.rules.specs.Program.{within, ascends-above, ascending};
 ghost use Rattle.rules.specs.Tests.{all};
 use records::word;
 
@@ -49,32 +48,4 @@ fn ascends_above(low: u16, part: &[u8]) -> bool
         rest = tail;
     }
     true
-}
-
-// Do the two parts, each ascending, have no atom in common?
-pub(crate) fn are_disjoint(left: &[u8], right: &[u8]) -> bool
-    requires left { ⌜ ascending (words (now left)) ≡ true ⌝ }
-    requires right { ⌜ ascending (words (now right)) ≡ true ⌝ }
-    ensures value { λ r. ⌜ r ≡ disjoint (words (now (left .entry))) (words (now (right .entry))) ⌝ }
-{
-    let mut one = left;
-    let mut other = right;
-    loop {
-        let [a, b, one_tail @ ..] = one else {
-            return true;
-        };
-        let [c, d, other_tail @ ..] = other else {
-            return true;
-        };
-        let first = word(*a, *b);
-        let second = word(*c, *d);
-        if first == second {
-            return false;
-        }
-        if first < second {
-            one = one_tail;
-        } else {
-            other = other_tail;
-        }
-    }
 }

@@ -1,26 +1,29 @@
 // Reading a program file: every check in its order, and an index of where the rules begin.
 ghost use mathlib.Core.Path.{_≡_};
 ghost use Prim.Native.Nat.{ℕ, _+_, _-_, _*_, _≤_, _<_};
-ghost use mathlib.Core.Bool.{cond};
+ghost use mathlib.Core.Bool.{true, cond};
 ghost use lib.ListN.{length, drop, replicate};
 ghost use Rattle.std.specs.Finite.{nth};
 ghost use Rattle.std.specs.declared.option.Option.the-variants.{None};
-ghost use Rattle.rules.specs.Program.{within};
+ghost use Rattle.records.specs.Words.{words};
+ghost use Rattle.rules.specs.Program.{within, ascending, disjoint};
 ghost use Rattle.program.specs.Reading.{refusal-at, file-head, opened, Fitting, opened-rule, rule-length, atoms-fault, rule-of, ended, checked, rules-from, program-in};
 ghost use Rattle.program.specs.Index.{indexed, indexed-from};
 ghost use Rattle.program.specs.Relation.{ReadsExactly};
 use crate::parts::all_within;
-use crate::parts::are_disjoint;
 use crate::parts::is_ascending;
 use records::read_header;
 use records::read_word;
+use records::word;
 use refusal::Layer;
 use refusal::Reason;
 use refusal::Refusal;
 
 // A file has at most this many bytes, atoms and rules.
 const MAX_BYTES: usize = 65000;
+
 const MAX_ATOMS: u16 = 4096;
+
 const MAX_RULES: u16 = 8000;
 
 // What the head record states.
@@ -183,6 +186,34 @@ fn check_atoms(rest: &[u8], place: usize, size: u16, positive: u16, n: u16) -> R
     Ok(())
 }
 
+// Do the two parts, each ascending, have no atom in common?
+fn are_disjoint(left: &[u8], right: &[u8]) -> bool
+    requires left { ⌜ ascending (words (now left)) ≡ true ⌝ }
+    requires right { ⌜ ascending (words (now right)) ≡ true ⌝ }
+    ensures value { λ r. ⌜ r ≡ disjoint (words (now (left .entry))) (words (now (right .entry))) ⌝ }
+{
+    let mut one = left;
+    let mut other = right;
+    loop {
+        let [a, b, one_tail @ ..] = one else {
+            return true;
+        };
+        let [c, d, other_tail @ ..] = other else {
+            return true;
+        };
+        let first = word(*a, *b);
+        let second = word(*c, *d);
+        if first == second {
+            return false;
+        }
+        if first < second {
+            one = one_tail;
+        } else {
+            other = other_tail;
+        }
+    }
+}
+
 // The end record: as many rules as stated, and nothing after it.
 fn check_end(rest: &[u8], place: usize, count: u16, stated: u16) -> Result<(), Refusal>
     requires small { ⌜ place < 65001 ⌝ }
@@ -212,7 +243,11 @@ fn read_rules(bytes: &[u8], head: FileHead) -> Result<Index, Refusal>
             Opened::End => {
                 check_end(rest, place, count, head.rules)?;
                 let atoms = head.atoms;
-                return Ok(Index { atoms, count, starts });
+                return Ok(Index {
+                    atoms,
+                    count,
+                    starts,
+                });
             }
             Opened::RuleRecord(size, positive) => (size, positive),
         };

@@ -34,7 +34,12 @@ pub fn negative_at(bytes: &[u8], start: u16, position: u16) -> Option<u16>
         return None;
     };
     let many = (size.saturating_sub(4) / 2).saturating_sub(positive);
-    number_in(bytes, start + (8 + 2 * usize::from(positive)), many, position)
+    number_in(
+        bytes,
+        start + (8 + 2 * usize::from(positive)),
+        many,
+        position,
+    )
 }
 
 fn number_in(bytes: &[u8], place: usize, many: u16, position: u16) -> Option<u16>

@@ -12,6 +12,7 @@ use Rattle.std.proofs.shelf.Lists.{length-take, length-drop, take-append-drop, 
 use Rattle.std.proofs.shelf.Elements.{all-from-getD}
 use Rattle.std.specs.declared.option.Option.the-variants.{Some}
 use Rattle.records.specs.Words.{word-of, words, two-bytes, word-bytes, record-bytes, header-of, first-word}
+use Rattle.refusal.specs.Results.{some-not-none}
 use Rattle.records.specs.declared.Header.{Header}
 
 -- each number is a byte
@@ -62,8 +63,8 @@ first-word-there (a ∷ (b ∷ rest)) h = refl
 
 -- the first two bytes are those of the first word
 pub first-two : (bs : List ℕ) (n : ℕ) → Bytes bs → first-word bs ≡ Some n → bs ≡ two-bytes n ++ drop 2 bs
-first-two [] n small is = absurd (let z : _≡_ {A = ℕ} 0 1 = cc in omega arith)
-first-two (a ∷ []) n small is = absurd (let z : _≡_ {A = ℕ} 0 1 = cc in omega arith)
+first-two [] n small is = absurd (some-not-none (sym is))
+first-two (a ∷ []) n small is = absurd (some-not-none (sym is))
 first-two (a ∷ (b ∷ rest)) n small is =
     let same : word-of a b ≡ n = cc in
     ap (λ t. t ++ rest) (sym (two-of-word a b (small .0)) ∙ ap two-bytes same)
@@ -81,12 +82,21 @@ header-of-record kind contents tail =
 pub after-record : (kind : ℕ) (contents tail : List ℕ) → drop (4 + length contents) (record-bytes kind contents ++ tail) ≡ tail
 after-record kind contents tail = drop-at (record-bytes kind contents) tail (4 + length contents) (length-record kind contents)
 
+pub first-word-of-header : (bs : List ℕ) (h : Header) → header-of bs ≡ Some h → first-word bs ≡ Some (h .length)
+first-word-of-header [] h is = absurd (some-not-none (sym is))
+first-word-of-header (a ∷ []) h is = absurd (some-not-none (sym is))
+first-word-of-header (a ∷ (b ∷ [])) h is = absurd (some-not-none (sym is))
+first-word-of-header (a ∷ (b ∷ (c ∷ []))) h is = absurd (some-not-none (sym is))
+first-word-of-header (a ∷ (b ∷ (c ∷ (d ∷ rest)))) h is =
+    let same : record { length = word-of a b; kind = word-of c d } ≡ h = cc in
+    ap (λ (x : Header). Some (x .length)) same
+
 -- the first four bytes are the header's
 pub header-bytes : (rest : List ℕ) (h : Header) → Bytes rest → header-of rest ≡ Some h → rest ≡ two-bytes (h .length) ++ (two-bytes (h .kind) ++ drop 4 rest)
-header-bytes [] h small is = absurd (let z : _≡_ {A = ℕ} 0 1 = cc in omega arith)
-header-bytes (a ∷ []) h small is = absurd (let z : _≡_ {A = ℕ} 0 1 = cc in omega arith)
-header-bytes (a ∷ (b ∷ [])) h small is = absurd (let z : _≡_ {A = ℕ} 0 1 = cc in omega arith)
-header-bytes (a ∷ (b ∷ (c ∷ []))) h small is = absurd (let z : _≡_ {A = ℕ} 0 1 = cc in omega arith)
+header-bytes [] h small is = absurd (some-not-none (sym is))
+header-bytes (a ∷ []) h small is = absurd (some-not-none (sym is))
+header-bytes (a ∷ (b ∷ [])) h small is = absurd (some-not-none (sym is))
+header-bytes (a ∷ (b ∷ (c ∷ []))) h small is = absurd (some-not-none (sym is))
 header-bytes (a ∷ (b ∷ (c ∷ (d ∷ rest)))) h small is =
     let same : record { length = word-of a b; kind = word-of c d } ≡ h = cc in
     ap (λ t. t ++ (c ∷ (d ∷ rest))) (sym (two-of-word a b (small .0)))

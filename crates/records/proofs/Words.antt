@@ -10,8 +10,7 @@ use lib.ListN.{length, getD, take, drop, length-take}
 use Rattle.std.proofs.shelf.Lists.{take-rest, drop-take, drop-all}
 use Rattle.std.proofs.shelf.Tests.{cond-true, cond-false, lt-ltb, le-ltb, cases-lt}
 use Rattle.std.specs.Finite.{nth}
-use Rattle.std.specs.Options.{valueOr}
-use Rattle.std.specs.declared.option.Option.the-variants.{Some, None}
+use Rattle.std.specs.declared.option.Option.the-variants.{None}
 use Rattle.records.specs.Words.{word-of, words, first-word}
 
 -- what is left after two bytes, as a slice pattern has it
@@ -49,18 +48,13 @@ first-word-take (suc (suc m)) (a ∷ (b ∷ rest)) h = refl
 pub nth-part : (m : ℕ) (xs : List ℕ) (i : ℕ) → nth (words (take (2 * m) xs)) i ≡ cond (ltb i m) (first-word (drop (2 * i) xs)) None
 nth-part m xs i =
     nth-words (take (2 * m) xs) i ∙ ⊎-elim
-      (λ (less : i < m).
-        let split : 2 * m ≡ 2 * i + (2 * m - 2 * i) = omega arith in
-        ap (λ n. first-word (drop (2 * i) (take n xs))) split
-        ∙ ap first-word (drop-take (2 * i) (2 * m - 2 * i) xs)
-        ∙ first-word-take (2 * m - 2 * i) (drop (2 * i) xs) (omega arith)
-        ∙ sym (cond-true (ltb i m) (first-word (drop (2 * i) xs)) None (lt-ltb i m less)))
-      (λ (past : m ≤ i).
-        ap first-word (drop-all (2 * i) (take (2 * m) xs) (simp length-take (omega arith)))
-        ∙ sym (cond-false (ltb i m) (first-word (drop (2 * i) xs)) None (le-ltb i m past)))
-      (cases-lt i m)
-
-pub some-word : (xs : List ℕ) → 2 ≤ length xs → first-word xs ≡ Some (valueOr (first-word xs) 0)
-some-word [] h = absurd (omega arith)
-some-word (a ∷ []) h = absurd (omega arith)
-some-word (a ∷ (b ∷ rest)) h = refl
+    (λ (less : i < m).
+    let split : 2 * m ≡ 2 * i + (2 * m - 2 * i) = omega arith in
+    ap (λ n. first-word (drop (2 * i) (take n xs))) split
+    ∙ ap first-word (drop-take (2 * i) (2 * m - 2 * i) xs)
+    ∙ first-word-take (2 * m - 2 * i) (drop (2 * i) xs) (omega arith)
+    ∙ sym (cond-true (ltb i m) (first-word (drop (2 * i) xs)) None (lt-ltb i m less)))
+    (λ (past : m ≤ i).
+    ap first-word (drop-all (2 * i) (take (2 * m) xs) (simp length-take (omega arith)))
+    ∙ sym (cond-false (ltb i m) (first-word (drop (2 * i) xs)) None (le-ltb i m past)))
+    (cases-lt i m)

@@ -36,10 +36,6 @@ module _ {X : Type 0} (test : X → Bool) where
   all-from-each [] h = refl
   all-from-each (x ∷ xs) h = and-from (test x) (all test xs) (h .0) (all-from-each xs (h .1))
 
-  pub none-from-any : (xs : List X) → any test xs ≡ false → All (λ x. test x ≡ false) xs
-  none-from-any [] e = tt
-  none-from-any (x ∷ xs) e = let parts = or-parts (test x) (any test xs) e in (parts .0, none-from-any xs (parts .1))
-
   pub any-from-none : (xs : List X) → All (λ x. test x ≡ false) xs → any test xs ≡ false
   any-from-none [] h = refl
   any-from-none (x ∷ xs) h = or-from (test x) (any test xs) (h .0) (any-from-none xs (h .1))
@@ -129,9 +125,6 @@ module _ (test : ℕ → Bool) (n from : ℕ) where
 
   pub lowest-from-last : from ≡ n → test from ≡ false → lowest-from test n from ≡ None
   lowest-from-last last t = let more : n + 1 - from ≡ 1 = omega arith in rw (more, t)
-
-  pub lowest-from-all : n < from → lowest-from test n from ≡ None
-  lowest-from-all past = let none : n + 1 - from ≡ 0 = omega arith in rw none
 
 module _ (small large : ℕ → Bool) (grows : (k : ℕ) → small k ≡ true → large k ≡ true) where
   one-le : (k : ℕ) → cond (small k) 1 0 ≤ cond (large k) 1 0

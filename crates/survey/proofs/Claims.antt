@@ -3,13 +3,12 @@ use mathlib.Core.Path.{_≡_, refl, sym, ap, subst, _∙_}
 use mathlib.Core.Bool.{Bool, true, false, cond}
 use mathlib.Core.List.{List, [], _∷_}
 use mathlib.Core.Logic.{⊎-elim}
-use Prim.Native.Nat.{ℕ, _+_, _-_, _≤_, _<_}
+use Prim.Native.Nat.{ℕ, _+_, _≤_, _<_}
 use native.Mathlib.Omega.{arith}
 use lib.Dec.{eqb}
 use lib.ListN.{length, drop, length-drop}
 use Rattle.std.proofs.shelf.Lists.{drop-drop}
 use Rattle.std.specs.Results.{isOk}
-use Rattle.std.specs.declared.option.Option.{Option}
 use Rattle.std.specs.declared.option.Option.the-variants.{Some, None}
 use Rattle.std.specs.declared.result.Result.{Result}
 use Rattle.std.specs.declared.result.Result.the-variants.{Ok, Err}
@@ -23,7 +22,7 @@ use Rattle.certificate.specs.declared.Opened.{Opened}
 use Rattle.certificate.specs.declared.Opened.the-variants.{End, ClaimRecord}
 use Rattle.certificate.specs.declared.Step.{Step}
 use Rattle.certificate.proofs.Claims.{Ends, Goes, turn}
-use Rattle.certificate.proofs.Standing.{err-not-ok, passed, claim-here}
+use Rattle.certificate.proofs.Standing.{claim-here}
 use Rattle.survey.specs.Making.{claims-or-none, with-claims, with-entry, with-levels}
 
 module _ {L : Type 0} (width : ℕ) (decode : List ℕ → L) (n : ℕ) (bytes : List ℕ) where
@@ -46,12 +45,12 @@ module _ {L : Type 0} (width : ℕ) (decode : List ℕ → L) (n : ℕ) (bytes :
       by-result (Err e) ok = absurd (let z : _≡_ {A = ℕ} 0 1 = cc in omega arith)
 
       by-test : (b : Bool) → isOk (cond b (claims-from width decode n n 0 (drop 8 bytes) 8) (Err (refusal-at LevelKind 0))) ≡ true
-        → claims-from width decode n n 0 (drop 8 bytes) 8 ≡ Ok (claims-or-none (cond b (claims-from width decode n n 0 (drop 8 bytes) 8) (Err (refusal-at LevelKind 0))))
+          → claims-from width decode n n 0 (drop 8 bytes) 8 ≡ Ok (claims-or-none (cond b (claims-from width decode n n 0 (drop 8 bytes) 8) (Err (refusal-at LevelKind 0))))
       by-test true ok = by-result (claims-from width decode n n 0 (drop 8 bytes) 8) ok
       by-test false ok = absurd (let z : _≡_ {A = ℕ} 0 1 = cc in omega arith)
 
   pub left-first : (kind : ℕ) → isOk (claims-in width decode n kind bytes) ≡ true → (marks : List ℕ) (entries : List (Entry L))
-    → Left 8 marks (with-claims marks (claims-or-none (claims-in width decode n kind bytes))) entries (with-levels entries (claims-or-none (claims-in width decode n kind bytes)))
+      → Left 8 marks (with-claims marks (claims-or-none (claims-in width decode n kind bytes))) entries (with-levels entries (claims-or-none (claims-in width decode n kind bytes)))
   left-first kind ok marks entries = record { room = n; last = 0; claims = _; reads = from-kind kind (stated-kind n bytes) ok; marks-so = refl; entries-so = refl }
 
   module _ (place : ℕ) (marks wanted-marks : List ℕ) (entries wanted-entries : List (Entry L)) (left : Left place marks wanted-marks entries wanted-entries) where
@@ -59,8 +58,8 @@ module _ {L : Type 0} (width : ℕ) (decode : List ℕ → L) (n : ℕ) (bytes :
     none-left none =
         ⊎-elim (λ (e : Ends width decode n (left .last) (drop place bytes) place (left .claims)). e .none)
         (λ (g : Goes width decode n (left .last) (drop place bytes) place (left .room) (left .claims)).
-          let some = none ∙ ap (step-at width decode bytes place) (g .is) in
-          absurd (let z : _≡_ {A = ℕ} 0 1 = cc in omega arith))
+        let some = none ∙ ap (step-at width decode bytes place) (g .is) in
+        absurd (let z : _≡_ {A = ℕ} 0 1 = cc in omega arith))
         (turn width decode n (left .last) (drop place bytes) place (left .room) (left .claims) (left .reads))
 
     pub marks-done : None ≡ claim-at width decode bytes place → marks ≡ wanted-marks
@@ -94,9 +93,9 @@ module _ {L : Type 0} (width : ℕ) (decode : List ℕ → L) (n : ℕ) (bytes :
           omega (arith, simp length-drop at whole, ap (λ (s : Step L). s .next) (was-read .same))
 
       after-first : (size : ℕ) (others : List (Claim L)) (room : ℕ) → step ≡ record { claim = claim-of width decode (drop place bytes) size; next = place + (4 + size) }
-        → claims-from width decode room n (claim-of width decode (drop place bytes) size .atom) (drop (4 + size) (drop place bytes)) (place + (4 + size)) ≡ Ok others
-        → left .claims ≡ claim-of width decode (drop place bytes) size ∷ others
-        → Left (step .next) (with-in marks (step .claim .atom)) wanted-marks (with-entry entries (step .claim .atom) (step .claim .level)) wanted-entries
+          → claims-from width decode room n (claim-of width decode (drop place bytes) size .atom) (drop (4 + size) (drop place bytes)) (place + (4 + size)) ≡ Ok others
+          → left .claims ≡ claim-of width decode (drop place bytes) size ∷ others
+          → Left (step .next) (with-in marks (step .claim .atom)) wanted-marks (with-entry entries (step .claim .atom) (step .claim .level)) wanted-entries
       after-first size others room same reads first =
           let claim = claim-of width decode (drop place bytes) size in
           let there : Left (place + (4 + size)) (with-in marks (claim .atom)) wanted-marks (with-entry entries (claim .atom) (claim .level)) wanted-entries = record {
@@ -112,17 +111,17 @@ module _ {L : Type 0} (width : ℕ) (decode : List ℕ → L) (n : ℕ) (bytes :
       pub left-more : Left (step .next) (with-in marks (step .claim .atom)) wanted-marks (with-entry entries (step .claim .atom) (step .claim .level)) wanted-entries
       left-more =
           ⊎-elim (λ (e : Ends width decode n (left .last) (drop place bytes) place (left .claims)).
-            let bad = sym (e .is) ∙ was-read .is in
-            absurd (let z : _≡_ {A = ℕ} 0 1 = cc in omega arith))
+          let bad = sym (e .is) ∙ was-read .is in
+          absurd (let z : _≡_ {A = ℕ} 0 1 = cc in omega arith))
           (λ (g : Goes width decode n (left .last) (drop place bytes) place (left .room) (left .claims)).
-            let both = sym (g .is) ∙ was-read .is in
-            let sizes : was-read .size ≡ g .size = cc in
-            after-first (g .size) (g .claims′) (g .room′) (was-read .same ∙ ap (λ z. record { claim = claim-of width decode (drop place bytes) z; next = place + (4 + z) }) sizes) (g .after) (g .first))
+          let both = sym (g .is) ∙ was-read .is in
+          let sizes : was-read .size ≡ g .size = cc in
+          after-first (g .size) (g .claims′) (g .room′) (was-read .same ∙ ap (λ z. record { claim = claim-of width decode (drop place bytes) z; next = place + (4 + z) }) sizes) (g .after) (g .first))
           (turn width decode n (left .last) (drop place bytes) place (left .room) (left .claims) (left .reads))
 
       -- the same for the tables as two calls leave them
       pub left-after : (marks′ : List ℕ) (entries′ : List (Entry L)) → marks′ ≡ with-in marks (step .claim .atom) → entries′ ≡ with-entry entries (step .claim .atom) (step .claim .level)
-        → Left (step .next) marks′ wanted-marks entries′ wanted-entries
+          → Left (step .next) marks′ wanted-marks entries′ wanted-entries
       left-after marks′ entries′ m e =
           subst (λ es. Left (step .next) marks′ wanted-marks es wanted-entries) (sym e)
-            (subst (λ ms. Left (step .next) ms wanted-marks (with-entry entries (step .claim .atom) (step .claim .level)) wanted-entries) (sym m) left-more)
+          (subst (λ ms. Left (step .next) ms wanted-marks (with-entry entries (step .claim .atom) (step .claim .level)) wanted-entries) (sym m) left-more)

@@ -3,9 +3,7 @@ use mathlib.Core.Bool.{cond}
 use mathlib.Core.List.{List, [], _∷_}
 use Prim.Native.Nat.{ℕ}
 use lib.Dec.{eqb}
-use lib.ListN.{length, replicate}
-use Rattle.std.specs.declared.option.Option.{Option}
-use Rattle.std.specs.declared.option.Option.the-variants.{Some, None}
+use lib.ListN.{replicate}
 use Rattle.std.specs.declared.result.Result.{Result}
 use Rattle.std.specs.declared.result.Result.the-variants.{Ok, Err}
 use Rattle.refusal.specs.Tables.{wrong-length}
@@ -14,21 +12,21 @@ use Rattle.levels.specs.Table.{with-level}
 use Rattle.levels.specs.declared.table.Entry.{Entry}
 use Rattle.levels.specs.declared.table.Entry.the-variants.{Empty, Holds}
 use Rattle.marks.specs.Marks.{with-in}
+use Rattle.certificate.specs.Reading.{claims-in}
 use Rattle.certificate.specs.declared.Claim.{Claim}
 
 -- both tables have one entry for each of the n atoms: the marks are looked at first
 abbrev pub fitting : ℕ → ℕ → ℕ → Result (Unit {0}) Refusal
 fitting n marks entries = cond (eqb marks n) (cond (eqb entries n) (Ok tt) (Err (wrong-length entries))) (Err (wrong-length marks))
 
--- without a certificate nothing is claimed
-abbrev pub nothing-claimed : {L : Type 0} → Result (Unit {0}) Refusal → Result (List (Claim L)) Refusal
-nothing-claimed (Ok u) = Ok []
-nothing-claimed (Err e) = Err e
-
 -- what may be claimed of tables that fit: what the certificate's reader answers
 abbrev pub allowed : {L : Type 0} → Result (Unit {0}) Refusal → Result (List (Claim L)) Refusal → Result (List (Claim L)) Refusal
 allowed (Ok u) claims = claims
 allowed (Err e) claims = Err e
+
+-- what may be claimed of tables of those lengths by a certificate for n atoms, with levels of that kind
+abbrev pub claims-for : {L : Type 0} → (width : ℕ) (decode : List ℕ → L) (n kind marks entries : ℕ) (bytes : List ℕ) → Result (List (Claim L)) Refusal
+claims-for width decode n kind marks entries bytes = allowed (fitting n marks entries) (claims-in width decode n kind bytes)
 
 -- whether a survey can be made
 abbrev pub makeable : {L : Type 0} → Result (List (Claim L)) Refusal → Result (Unit {0}) Refusal

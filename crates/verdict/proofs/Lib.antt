@@ -2,4 +2,4 @@ pub mod Grounded
 pub mod Marked
 pub mod Steps
 pub mod Support
-pub mod Tables
+pub mod Accepted

@@ -1,9 +1,8 @@
-use mathlib.Core.Path.{_≡_, sym, ap, _∙_}
-use mathlib.Core.Bool.{true}
+-- A turn passes an atom that is known.
+use mathlib.Core.Path.{sym, ap, _∙_}
 use borrow.Author.Needs.{needs}
-use native.Mathlib.Omega.{arith}
 use Rattle.rules.specs.Program.{within}
-use Rattle.program.proofs.Walks.{here, within-from, all-more}
+use Rattle.program.proofs.Walks.{within-from, all-more}
 use Rattle.program.proofs.parts.all_within.Needs as need
 
 pub loop-rest-again : need.loop-rest-again

@@ -1,3 +1,4 @@
+-- What is left of the part gives the answer, and becomes shorter.
 use mathlib.Core.Path.{_≡_}
 use lib.ListN.{length}
 use Rattle.records.specs.Words.{words}
@@ -5,7 +6,6 @@ use Rattle.rules.specs.Program.{within}
 use Rattle.rules.specs.Tests.{all}
 use Rattle.program.proofs.parts.all_within.Given as given
 
--- what is left gives the answer
 abbrev pub Inv-loop-rest : given.InvT-loop-rest
 Inv-loop-rest l = all (within (l .n)) (words (l .rest)) ≡ all (within (l .n)) (words (l .part))
 

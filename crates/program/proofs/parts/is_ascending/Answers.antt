@@ -1,4 +1,5 @@
-use mathlib.Core.Path.{_≡_, sym, ap, _∙_}
+-- A part ascends when what follows its first atom ascends above it.
+use mathlib.Core.Path.{sym, ap, _∙_}
 use borrow.Author.Needs.{needs}
 use Rattle.records.specs.Words.{words}
 use Rattle.records.proofs.Words.{tail-of, words-more}

@@ -1,3 +1,4 @@
+-- On each way, the bytes hold a program exactly when they are its encoding.
 use borrow.Author.Needs.{needs}
 use Rattle.records.proofs.Encoded.{bytes-from-fits}
 use Rattle.program.proofs.Relation.{reads-exactly}

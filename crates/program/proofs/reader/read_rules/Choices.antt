@@ -1,3 +1,4 @@
+-- What is left of the file gives the answer, and becomes shorter.
 use mathlib.Core.Path.{_≡_}
 use Prim.Native.Nat.{_-_, _≤_}
 use lib.ListN.{length, drop, replicate}
@@ -5,7 +6,6 @@ use Rattle.program.specs.Reading.{rules-from}
 use Rattle.program.specs.Index.{indexed-from}
 use Rattle.program.proofs.reader.read_rules.Given as given
 
--- what is left gives the answer
 abbrev pub Inv-records : given.InvT-records
 Inv-records l =
     (8 ≤ l .place) × (l .place ≤ length (l .bytes)) × (l .count ≤ 8000) × (length (l .starts) ≡ 8000)

@@ -1,4 +1,4 @@
-use mathlib.Core.Path.{_≡_, refl, sym, ap, _∙_}
+use mathlib.Core.Path.{refl, _∙_}
 use native.Mathlib.Omega.{arith}
 use Rattle.survey.proofs.Claims.{left-first, marks-done, entries-done, next-further, next-within, left-after}
 use Rattle.survey.proofs.making.put_claims.Needs as need
@@ -17,10 +17,11 @@ claims-less g c =
 
 pub claims-again : need.claims-again
 claims-again g c =
-    let level = g .L·StoredLevel in
-    (left-after (level .width) (level .decode) (c .args .n) (c .args .certificate .now) (c .claims .place) _ _ _ _ (c .claims .inv .0) (c .in-Some .step) (c .in-Some .ensures tt .value)
-        (c .put-in .last .marks) (c .put-entry .last .levels .entries .now) (c .put-in .ensures .after) (c .put-entry .ensures .after),
-      c .put-entry .ensures .named ∙ c .claims .inv .1)
+    let level = g .L·StoredLevel in (
+      left-after (level .width) (level .decode) (c .args .n) (c .args .certificate .now) (c .claims .place) _ _ _ _ (c .claims .inv .0) (c .in-Some .step) (c .in-Some .ensures tt .value)
+          (c .put-in .last .marks) (c .put-entry .last .levels .entries .now) (c .put-in .ensures .after) (c .put-entry .ensures .after),
+      c .put-entry .ensures .named ∙ c .claims .inv .1,
+    )
 
 pub returns : need.returns
 returns g c =

@@ -1,3 +1,4 @@
+-- The index that checking gave is that of the program in the bytes.
 use Rattle.program.proofs.Starts.{from-indexed}
 use Rattle.program.specs.Reading.{program-in}
 use Rattle.program.proofs.file.ProgramFile.over.Needs as need

@@ -1,7 +1,6 @@
 -- The record at the rule's place holds what the program has.
 use mathlib.Core.Path.{sym, ap, _∙_}
 use Rattle.std.specs.Options.{mapped}
-use Rattle.rules.specs.Questions.{in-part}
 use Rattle.program.proofs.Questions.{rule-stands, rule-absent, head-answer}
 use Rattle.program.proofs.file.source.ProgramFileSource.head.Needs as need
 

@@ -1,10 +1,11 @@
-use mathlib.Core.Path.{_≡_, sym, ap, _∙_}
+-- A turn compares the first atoms, and passes the smaller one.
+use mathlib.Core.Path.{_≡_, sym, _∙_}
 use Prim.Native.Nat.{_<_}
 use borrow.Author.Needs.{needs}
 use native.Mathlib.Omega.{arith}
 use Rattle.program.proofs.Walks.{here}
-use Rattle.program.proofs.Disjoint.{Apart, apart-no-right, apart-same, apart-less, apart-more}
-use Rattle.program.proofs.parts.are_disjoint.Needs as need
+use Rattle.program.proofs.Disjoint.{apart-no-right, apart-same, apart-less, apart-more}
+use Rattle.program.proofs.reader.are_disjoint.Needs as need
 
 pub returns-in-rest-other : need.returns-in-rest-other
 returns-in-rest-other c = record { value = apart-no-right (c .loop-one .one .now) (c .loop-one .other .now) _ (c .loop-one .inv) (search needs) }

@@ -1,11 +1,11 @@
+-- What is left of the two parts gives the answer, and becomes shorter.
 use Prim.Native.Nat.{_+_}
 use lib.ListN.{length}
 use Rattle.records.specs.Words.{words}
 use Rattle.rules.specs.Program.{disjoint}
 use Rattle.program.proofs.Disjoint.{Apart}
-use Rattle.program.proofs.parts.are_disjoint.Given as given
+use Rattle.program.proofs.reader.are_disjoint.Given as given
 
--- what is left gives the answer
 abbrev pub Inv-loop-one : given.InvT-loop-one
 Inv-loop-one l = Apart (l .one) (l .other) (disjoint (words (l .left)) (words (l .right)))
 
