@@ -3,6 +3,8 @@ use mathlib.Core.Path.{_≡_}
 use mathlib.Core.List.{List}
 use mathlib.Core.Logic.{_⊎_}
 use Prim.Native.Nat.{ℕ}
+use lib.Chars.{codes}
+use lib.ListN.{take}
 use Rattle.std.specs.declared.result.Result.{Result}
 use Rattle.std.specs.declared.result.Result.the-variants.{Ok}
 use Rattle.refusal.specs.declared.Refusal.{Refusal}
@@ -37,3 +39,7 @@ pub record StableFiles (program certificate : List ℕ) : Type 0 where
 -- only such files are accepted
 abbrev pub AcceptsOnlyStableFiles : List ℕ → List ℕ → Result Verdict Refusal → Type 0
 AcceptsOnlyStableFiles program certificate answer = (m : ℕ) → answer ≡ Ok (Accepted m) → StableFiles program certificate
+
+-- a line that begins with the word `accepted` is printed for such files only
+abbrev pub PrintsOnlyStable : List ℕ → List ℕ → List ℕ → Type 0
+PrintsOnlyStable program certificate line = take 8 line ≡ codes "accepted" → StableFiles program certificate

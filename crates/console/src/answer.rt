@@ -3,6 +3,7 @@ ghost use mathlib.Core.Path.{_≡_};
 ghost use lib.ListN.{length};
 ghost use Rattle.std.specs.declared.result.Result.the-variants.{Ok};
 ghost use Rattle.certificate.specs.Reading.{claims-in};
+ghost use Rattle.console.specs.Accepted.{AcceptsOnlyStableFiles};
 ghost use Rattle.console.specs.Answer.{judged-claims, by-program, answer-for};
 use certificate::read_kind;
 use levels::numbers::Number;
@@ -12,8 +13,8 @@ use levels::routes::Route;
 use levels::routes::RouteStored;
 use levels::table::Entry;
 use levels::table::LevelTable;
-use program::file::ProgramFile;
-use program::file::source::ProgramFileSource;
+use program_file::file::ProgramFile;
+use program_file::file::source::ProgramFileSource;
 use program::reader::check;
 use refusal::Layer;
 use refusal::Reason;
@@ -30,6 +31,7 @@ const MAX_ATOMS: usize = 4096;
 // Reads the program, then the certificate, and judges the survey that it makes.
 pub fn answer(program: &[u8], certificate: &[u8]) -> Result<Verdict, Refusal>
     ensures value { λ r. ⌜ r ≡ answer-for (now (program .entry)) (now (certificate .entry)) ⌝ }
+    ensures accepted_is_stable { λ r. ⌜ AcceptsOnlyStableFiles (now (program .entry)) (now (certificate .entry)) r ⌝ }
 {
     let index = check(program)?;
     let file = ProgramFile::over(program, index);
@@ -59,7 +61,12 @@ pub fn answer_over<S: RuleSource>(source: &S, certificate: &[u8]) -> Result<Verd
 }
 
 // Judges what a certificate claims, in the first entries of tables for as many atoms as a program may have.
-fn judge_within<S: RuleSource, L: StoredLevel>(source: &S, certificate: &[u8], marks: &mut [u8], entries: &mut [Entry<L>]) -> Result<Verdict, Refusal>
+fn judge_within<S: RuleSource, L: StoredLevel>(
+    source: &S,
+    certificate: &[u8],
+    marks: &mut [u8],
+    entries: &mut [Entry<L>],
+) -> Result<Verdict, Refusal>
     requires marks { ⌜ length (now marks) ≡ 4096 ⌝ }
     requires entries { ⌜ length (now entries) ≡ 4096 ⌝ }
     ensures value { λ r. ⌜ r ≡ judged-claims (L·Level .below) (meaning (now (source .entry))) (claims-in width decode (meaning (now (source .entry)) .atoms) kind (now (certificate .entry))) ⌝ }
@@ -69,7 +76,12 @@ fn judge_within<S: RuleSource, L: StoredLevel>(source: &S, certificate: &[u8], m
 }
 
 // The same in tables with one entry for each atom.
-fn judge_in<S: RuleSource, L: StoredLevel>(source: &S, certificate: &[u8], marks: &mut [u8], entries: &mut [Entry<L>]) -> Result<Verdict, Refusal>
+fn judge_in<S: RuleSource, L: StoredLevel>(
+    source: &S,
+    certificate: &[u8],
+    marks: &mut [u8],
+    entries: &mut [Entry<L>],
+) -> Result<Verdict, Refusal>
     requires marks { ⌜ length (now marks) ≡ meaning (now source) .atoms ⌝ }
     requires entries { ⌜ length (now entries) ≡ meaning (now source) .atoms ⌝ }
     ensures value { λ r. ⌜ r ≡ judged-claims (L·Level .below) (meaning (now (source .entry))) (claims-in width decode (meaning (now (source .entry)) .atoms) kind (now (certificate .entry))) ⌝ }

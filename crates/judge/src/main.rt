@@ -1,6 +1,5 @@
 // `judge`: reads `program.bin` and `certificate.bin` in the current folder, and prints one line.
-use console::answer::answer;
-use console::line::write_line;
+use console::line::line_for;
 use std::fs::File;
 use std::io;
 use std::io::Read;
@@ -11,7 +10,7 @@ const READ_LIMIT: u64 = 65001;
 fn main(rt: LibcRuntime) -> io::Result<()> {
     let program = read_front(&rt, "program.bin")?;
     let certificate = read_front(&rt, "certificate.bin")?;
-    let line = write_line(rt.alloc(), answer(&program, &certificate))?;
+    let line = line_for(rt.alloc(), &program, &certificate)?;
     print!(rt, "{line}")
 }
 

@@ -1,6 +1,4 @@
 pub mod Walks
-pub mod Starts
-pub mod Questions
 pub mod Disjoint
 pub mod Rules
 pub mod Opened

@@ -13,11 +13,9 @@ use Rattle.refusal.specs.declared.Refusal.{Refusal}
 use Rattle.refusal.specs.Results.{err-not-ok, passed}
 use Rattle.rules.specs.Program.{Rule, Program, LawfulRule, Lawful}
 use Rattle.program.specs.Reading.{file-head, rules-from, with-atoms, by-head, program-in, read-or-empty}
-use Rattle.program.specs.File.{program-of}
 use Rattle.program.specs.Turns.{turn-of, none-left, one-more}
 use Rattle.program.specs.Here.{rule-here, rule-lawful}
 use Rattle.program.specs.Head.{head-here}
-use Rattle.program.specs.declared.file.ProgramFile.{ProgramFile}
 use Rattle.program.specs.declared.reader.FileHead.{FileHead}
 
 -- each rule that is read is lawful, and they are no more than there is room for
@@ -80,10 +78,7 @@ program-lawful bytes p parts =
       each-lawful = rules .0;
     }
 
-read-lawful : (bytes : List ℕ) (r : Result Program Refusal) → program-in bytes ≡ r → Lawful (read-or-empty r)
+-- the program that is read, or the empty one, is lawful
+pub read-lawful : (bytes : List ℕ) (r : Result Program Refusal) → program-in bytes ≡ r → Lawful (read-or-empty r)
 read-lawful bytes (Err e) is = record { atoms-bound = omega arith; rules-bound = omega arith; each-lawful = tt }
 read-lawful bytes (Ok p) is = program-lawful bytes p (parts-of bytes p is)
-
--- the program that a file stands for is lawful
-pub file-lawful : (f : ProgramFile) → Lawful (program-of f)
-file-lawful f = read-lawful (f .bytes .now) (program-in (f .bytes .now)) refl

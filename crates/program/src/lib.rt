@@ -1,22 +1,3 @@
-// The program file: reading it, and the checked file as a rule source.
-ghost use mathlib.Core.Path.{_≡_};
-ghost use Rattle.program.specs.Reading.{program-in, atoms-read};
-use crate::file::ProgramFile;
-use crate::file::source::ProgramFileSource;
-use crate::reader::check;
-use refusal::Refusal;
-use rules::RuleSource;
-
-pub mod file;
+// Reading program files.
 pub mod parts;
 pub mod reader;
-pub mod stored;
-
-// Checks a program file, and tells how many atoms its program has.
-pub fn atoms_in(bytes: &[u8]) -> Result<u16, Refusal>
-    ensures value { λ r. ⌜ r ≡ atoms-read (program-in (now (bytes .entry))) ⌝ }
-{
-    let index = check(bytes)?;
-    let file = ProgramFile::over(bytes, index);
-    Ok(file.atoms())
-}

@@ -11,10 +11,10 @@ use levels::table::LevelTable;
 use marks::count_marked;
 use marks::find_unlawful;
 use marks::is_marked;
-use refusal::check_length;
 use refusal::Layer;
 use refusal::Reason;
 use refusal::Refusal;
+use refusal::check_length;
 use rules::RuleSource;
 
 // What judge answers, each with a number: a rule, an atom, an atom, how many atoms are marked.

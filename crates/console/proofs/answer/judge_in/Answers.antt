@@ -17,6 +17,6 @@ returns-in-Break-can-make-from g c =
     let fitting = claims-for-fitting (level .width) (level .decode) (program .atoms) (level .kind) certificate _ _ (c .pre .marks) (ap length (c .over-levels .ensures .value) ∙ c .pre .entries) in
     record {
       value = p .1 ∙ ap Err (p .2)
-        ∙ refused-claims (g .L·Level .below) program (claims-in (level .width) (level .decode) (program .atoms) (level .kind) certificate) (c .in-Break-can-make-from .field-0 .0)
+          ∙ refused-claims (g .L·Level .below) program (claims-in (level .width) (level .decode) (program .atoms) (level .kind) certificate) (c .in-Break-can-make-from .field-0 .0)
           (c .in-Break-can-make-from .ensures tt .value ∙ ap makeable fitting);
     }

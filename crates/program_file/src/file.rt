@@ -4,9 +4,9 @@ ghost use lib.ListN.{length};
 ghost use denote.Ref.{now};
 ghost use mathlib.Core.Bool.{true};
 ghost use Rattle.std.specs.Results.{isOk};
 ghost use Rattle.program.specs.Reading.{program-in, read-or-empty};
 ghost use Rattle.program.specs.Index.{index-of};
-use crate::reader::Index;
+use program::reader::Index;
 
 pub mod source;
 

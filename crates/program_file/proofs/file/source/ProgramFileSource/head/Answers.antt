@@ -1,8 +1,8 @@
 -- The record at the rule's place holds what the program has.
 use mathlib.Core.Path.{sym, ap, _∙_}
 use Rattle.std.specs.Options.{mapped}
-use Rattle.program.proofs.Questions.{rule-stands, rule-absent, head-answer}
-use Rattle.program.proofs.file.source.ProgramFileSource.head.Needs as need
+use Rattle.program_file.proofs.Questions.{rule-stands, rule-absent, head-answer}
+use Rattle.program_file.proofs.file.source.ProgramFileSource.head.Needs as need
 
 pub returns-in-rest : need.returns-in-rest
 returns-in-rest c =

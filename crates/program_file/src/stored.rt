@@ -1,7 +1,7 @@
 // The atoms of a rule, read where its record stands.
 ghost use mathlib.Core.Path.{_≡_};
 ghost use Prim.Native.Nat.{_<_, _^_};
-ghost use Rattle.program.specs.Stored.{number-in, stored-head, stored-positive, stored-negative};
+ghost use Rattle.program_file.specs.Stored.{number-in, stored-head, stored-positive, stored-negative};
 use records::read_word;
 
 // The head of the rule whose record begins at `start`.

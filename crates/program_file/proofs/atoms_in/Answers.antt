@@ -2,9 +2,9 @@
 use mathlib.Core.Path.{ap, _∙_}
 use Rattle.std.proofs.shelf.Results.{err-from-errBy}
 use Rattle.std.specs.declared.result.Result.the-variants.{Err}
 use Rattle.program.specs.Reading.{program-in}
-use Rattle.program.proofs.Starts.{atoms-refused}
-use Rattle.program.proofs.atoms_in.Needs as need
+use Rattle.program_file.proofs.Starts.{atoms-refused}
+use Rattle.program_file.proofs.atoms_in.Needs as need
 
 pub returns-in-Break-index : need.returns-in-Break-index
 returns-in-Break-index c =

@@ -22,13 +22,13 @@ use Rattle.records.proofs.Words.{nth-part}
 use Rattle.records.proofs.Encoded.{first-word-there, first-word-of-header}
 use Rattle.rules.specs.Program.{Rule, Program, within}
 use Rattle.rules.specs.Questions.{rule-at, in-part}
 use Rattle.program.specs.Reading.{program-in, read-or-empty}
 use Rattle.program.specs.Index.{rule-size, with-starts, index-of}
-use Rattle.program.specs.Stored.{stored-head, by-positive, stored-positive, by-negative, stored-negative}
+use Rattle.program_file.specs.Stored.{stored-head, by-positive, stored-positive, by-negative, stored-negative}
 use Rattle.program.specs.Lawful.{Parts, parts-of, parts-sound}
 use Rattle.program.specs.declared.reader.Index.{Index}
 use Rattle.program.proofs.Walks.{within-from}
-use Rattle.program.proofs.Starts.{StandsAt, stands, ok-program}
+use Rattle.program_file.proofs.Starts.{StandsAt, stands, ok-program}
 
 length-starts : (rules : List Rule) (starts : List ℕ) (k place : ℕ) → length (with-starts starts k place rules) ≡ length starts
 length-starts [] starts k place = refl

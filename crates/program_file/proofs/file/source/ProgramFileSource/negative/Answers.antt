@@ -2,8 +2,8 @@
 use mathlib.Core.Path.{sym, ap, _∙_}
 use Rattle.std.specs.Options.{mapped}
 use Rattle.rules.specs.Questions.{in-part}
-use Rattle.program.proofs.Questions.{rule-stands, rule-absent, negative-answer}
-use Rattle.program.proofs.file.source.ProgramFileSource.negative.Needs as need
+use Rattle.program_file.proofs.Questions.{rule-stands, rule-absent, negative-answer}
+use Rattle.program_file.proofs.file.source.ProgramFileSource.negative.Needs as need
 
 pub returns-in-rest : need.returns-in-rest
 returns-in-rest c =
