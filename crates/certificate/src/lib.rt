@@ -8,13 +8,12 @@ ghost use Rattle.certificate.specs.Relation.{ReadsExactly, NeverTooMany};
 use levels::order::StoredLevel;
 use levels::table::Entry;
 use levels::table::EntryClone;
+use records::MAX_BYTES;
 use records::read_header;
 use records::read_word;
 use refusal::Layer;
 use refusal::Reason;
 use refusal::Refusal;
-
-const MAX_BYTES: usize = 65000;
 
 // An atom that is claimed to be in, with the level claimed for it.
 #[derive(Clone, Copy)]

@@ -12,6 +12,7 @@ ghost use Rattle.program.specs.Index.{indexed, indexed-from};
 ghost use Rattle.program.specs.Relation.{ReadsExactly};
 use crate::parts::all_within;
 use crate::parts::is_ascending;
+use records::MAX_BYTES;
 use records::read_header;
 use records::read_word;
 use records::word;
@@ -19,8 +20,7 @@ use refusal::Layer;
 use refusal::Reason;
 use refusal::Refusal;
 
-// A file has at most this many bytes, atoms and rules.
-const MAX_BYTES: usize = 65000;
+// A file has at most this many atoms and rules.
 
 const MAX_ATOMS: u16 = 4096;
 

@@ -3,6 +3,9 @@ ghost use mathlib.Core.Path.{_≡_};
 ghost use Prim.Native.Nat.{_+_, _*_};
 ghost use Rattle.records.specs.Words.{word-of, header-of, first-word, word-at};
 
+// A file of records has at most this many bytes.
+pub const MAX_BYTES: usize = 65000;
+
 // The four bytes before a record's contents.
 #[derive(Clone, Copy)]
 pub struct Header {

@@ -12,10 +12,10 @@ ghost use Rattle.program.specs.Index.{indexed};
 ghost use Rattle.program_file.specs.File.{program-of};
 ghost use Rattle.program_file.specs.Lawful.{file-lawful};
 use crate::file::ProgramFile;
-use program::reader::Index;
 use crate::stored::head_at;
 use crate::stored::negative_at;
 use crate::stored::positive_at;
+use program::reader::Index;
 use rules::RuleSource;
 
 impl<'a> ProgramFile<'a> {
