@@ -15,10 +15,10 @@ use Rattle.records.proofs.Encoded.{Bytes}
 use Rattle.rules.specs.Program.{Program}
 use Rattle.rules.specs.Stable.{Atoms, Stable}
 use Rattle.rules.specs.Tests.{member}
-use Rattle.levels.specs.Laws.{number-laws, number-stored, route-laws, route-stored}
-use Rattle.levels.specs.Numbers.{less, number, number-rungs, number-kind, number-width, number-bytes, number-from}
+use Rattle.orders.specs.Laws.{number-laws, number-stored, route-laws, route-stored}
+use Rattle.orders.specs.Numbers.{less, number, number-rungs, number-kind, number-width, number-bytes, number-from}
 use Rattle.levels.specs.Order.{Order}
-use Rattle.levels.specs.Routes.{inside, route-rung, route-rungs, route-kind, route-width, route-bytes, route-from}
+use Rattle.orders.specs.Routes.{inside, route-rung, route-rungs, route-kind, route-width, route-bytes, route-from}
 use Rattle.levels.specs.Stored.{Stored}
 use Rattle.marks.specs.Marks.{marked}
 use Rattle.program.specs.Encoding as program-file

@@ -11,8 +11,8 @@ use Rattle.refusal.specs.declared.Refusal.{Refusal}
 use Rattle.rules.specs.Program.{Program}
 use Rattle.rules.specs.Stable.{Stable}
 use Rattle.rules.specs.Tests.{member}
-use Rattle.levels.specs.Numbers.{number-kind, number-bytes}
-use Rattle.levels.specs.Routes.{route-kind, route-bytes}
+use Rattle.orders.specs.Numbers.{number-kind, number-bytes}
+use Rattle.orders.specs.Routes.{route-kind, route-bytes}
 use Rattle.program.specs.Encoding as program-file
 use Rattle.certificate.specs.Claims.{atoms-of}
 use Rattle.certificate.specs.Encoding as certificate-file

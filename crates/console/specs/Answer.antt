@@ -8,8 +8,8 @@ use Rattle.std.specs.declared.result.Result.the-variants.{Ok, Err}
 use Rattle.refusal.specs.declared.Reason.the-variants.{LevelKind}
 use Rattle.refusal.specs.declared.Refusal.{Refusal}
 use Rattle.rules.specs.Program.{Program}
-use Rattle.levels.specs.Numbers.{less, number-kind, number-width, number-from}
-use Rattle.levels.specs.Routes.{inside, route-kind, route-width, route-from}
+use Rattle.orders.specs.Numbers.{less, number-kind, number-width, number-from}
+use Rattle.orders.specs.Routes.{inside, route-kind, route-width, route-from}
 use Rattle.program.specs.Reading.{program-in}
 use Rattle.certificate.specs.Reading.{refusal-at, stated-kind, claims-in}
 use Rattle.certificate.specs.declared.Claim.{Claim}

@@ -1,5 +1,3 @@
-// Levels: orders of levels, how they are stored, and the table that holds a level or none for each atom.
-pub mod numbers;
+// Levels: what an order of levels is, how levels are stored, and the table that holds a level or none for each atom.
 pub mod order;
-pub mod routes;
 pub mod table;

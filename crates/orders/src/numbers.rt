@@ -1,8 +1,8 @@
 // Numbers of 32 bits as levels, ordered by size.
-ghost use Rattle.levels.specs.Numbers.{less, number, number-rungs, number-width, number-kind, number-bytes, number-from};
-ghost use Rattle.levels.specs.Laws.{number-laws, number-stored};
-use crate::order::Level;
-use crate::order::StoredLevel;
+ghost use Rattle.orders.specs.Numbers.{less, number, number-rungs, number-width, number-kind, number-bytes, number-from};
+ghost use Rattle.orders.specs.Laws.{number-laws, number-stored};
+use levels::order::Level;
+use levels::order::StoredLevel;
 
 // A level that is a number; a larger number is a higher level.
 #[derive(Clone, Copy)]

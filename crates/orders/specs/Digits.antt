@@ -9,7 +9,7 @@ use lib.Bits.{bitAnd, and-step}
 use lib.ListN.{length}
 use Rattle.std.proofs.shelf.Bits.{and-le-l, and-mask, pow-below}
 use Rattle.std.specs.shelf.Lists.{All}
-use Rattle.levels.specs.LittleEndian.{bytes-of, number-in}
+use Rattle.orders.specs.LittleEndian.{bytes-of, number-in}
 
 pub length-bytes-of : (width n : ℕ) → length (bytes-of width n) ≡ width
 length-bytes-of zero n = refl

@@ -4,8 +4,8 @@ use mathlib.Core.List.{List}
 use Prim.Native.Nat.{ℕ, _-_, _^_}
 use lib.Dec.{eqb}
 use lib.Bits.{bitAnd}
-use Rattle.levels.specs.LittleEndian.{bytes-of, number-in}
-use Rattle.levels.specs.declared.routes.Route.{Route}
+use Rattle.orders.specs.LittleEndian.{bytes-of, number-in}
+use Rattle.orders.specs.declared.routes.Route.{Route}
 
 -- each bit of a is one of b
 abbrev pub contained : ℕ → ℕ → Bool

@@ -1,10 +1,10 @@
 // Sets of repeaters as levels, one bit for each of 64: a set is below another that strictly contains it.
 ghost use mathlib.Core.Path.{_≡_};
 ghost use Prim.Native.Nat.{_-_, _^_, _≤_};
-ghost use Rattle.levels.specs.Routes.{inside, route-rung, route-rungs, route-width, route-kind, route-bytes, route-from};
-ghost use Rattle.levels.specs.Laws.{route-laws, route-stored};
-use crate::order::Level;
-use crate::order::StoredLevel;
+ghost use Rattle.orders.specs.Routes.{inside, route-rung, route-rungs, route-width, route-kind, route-bytes, route-from};
+ghost use Rattle.orders.specs.Laws.{route-laws, route-stored};
+use levels::order::Level;
+use levels::order::StoredLevel;
 
 // A set of repeaters: bit i says whether repeater i is in it.
 #[derive(Clone, Copy)]

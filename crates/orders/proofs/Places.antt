@@ -4,7 +4,7 @@ use mathlib.Core.List.{List, [], _∷_}
 use Prim.Native.Nat.{ℕ, zero, suc, _+_, _*_}
 use native.Mathlib.Numerals.{add-one}
 use lib.ListN.{getD, drop}
-use Rattle.levels.specs.LittleEndian.{number-in}
+use Rattle.orders.specs.LittleEndian.{number-in}
 
 pub number-in-more : (bytes : List ℕ) (i : ℕ) → number-in (drop i bytes) ≡ getD bytes i 0 + number-in (drop (i + 1) bytes) * 256
 number-in-more [] zero = refl

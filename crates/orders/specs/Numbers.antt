@@ -3,8 +3,8 @@ use mathlib.Core.Bool.{Bool}
 use mathlib.Core.List.{List}
 use Prim.Native.Nat.{ℕ}
 use lib.Dec.{ltb}
-use Rattle.levels.specs.LittleEndian.{bytes-of, number-in}
-use Rattle.levels.specs.declared.numbers.Number.{Number}
+use Rattle.orders.specs.LittleEndian.{bytes-of, number-in}
+use Rattle.orders.specs.declared.numbers.Number.{Number}
 
 abbrev pub less : Number → Number → Bool
 less x y = ltb (x .value) (y .value)

@@ -7,12 +7,12 @@ use lib.Bits.{bitAnd}
 use lib.Dec.{eqb}
 use Rattle.std.proofs.shelf.Bits.{and-comm, pow-below, pow-pos}
 use Rattle.std.proofs.shelf.Tests.{ltb-true, lt-ltb, le-ltb, eqb-true, eqb-false, eq-eqb, ne-eqb, and-parts, and-from, and-right, not-true, not-from-true, not-from-false}
 use Rattle.levels.specs.Order.{Order}
 use Rattle.levels.specs.Stored.{Stored}
-use Rattle.levels.specs.Numbers.{less, number, number-rungs, number-width, number-bytes, number-from}
-use Rattle.levels.specs.Routes.{contained, inside, route, route-rung, route-rungs, route-width, route-bytes, route-from}
-use Rattle.levels.specs.declared.routes.Route.{Route}
-use Rattle.levels.specs.Digits.{length-bytes-of, number-in-bytes-of, bytes-of-number-in, contained-trans, ones-contained}
+use Rattle.orders.specs.Numbers.{less, number, number-rungs, number-width, number-bytes, number-from}
+use Rattle.orders.specs.Routes.{contained, inside, route, route-rung, route-rungs, route-width, route-bytes, route-from}
+use Rattle.orders.specs.declared.routes.Route.{Route}
+use Rattle.orders.specs.Digits.{length-bytes-of, number-in-bytes-of, bytes-of-number-in, contained-trans, ones-contained}
 
 pub number-laws : Order less number-rungs number
 number-laws = record {

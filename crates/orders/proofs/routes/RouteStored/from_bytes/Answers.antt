@@ -4,9 +4,9 @@ use native.Mathlib.Omega.{arith}
 use borrow.Author.Needs.{needs}
 use lib.ListN.{length}
 use Rattle.std.proofs.shelf.Lists.{at-drop-all}
-use Rattle.levels.specs.LittleEndian.{number-in}
-use Rattle.levels.proofs.Places.{number-in-more}
-use Rattle.levels.proofs.routes.RouteStored.from_bytes.Needs as need
+use Rattle.orders.specs.LittleEndian.{number-in}
+use Rattle.orders.proofs.Places.{number-in-more}
+use Rattle.orders.proofs.routes.RouteStored.from_bytes.Needs as need
 
 pub returns : need.returns
 returns c =

@@ -1,0 +1,5 @@
+pub mod Digits
+pub mod Laws
+pub mod LittleEndian
+pub mod Numbers
+pub mod Routes

@@ -1,0 +1,3 @@
+// The level orders: numbers and routes.
+pub mod numbers;
+pub mod routes;
