@@ -6,6 +6,7 @@ mod certificates;
 mod lines;
 mod orders;
 mod programs;
+mod reading;
 mod tables;
 mod verdicts;
 
@@ -14,5 +15,6 @@ fn main(rt: LibcRuntime) -> io::Result<()> {
     certificates::print_all(&rt)?;
     verdicts::print_all(&rt)?;
     tables::print_all(&rt)?;
-    orders::print_all(&rt)
+    orders::print_all(&rt)?;
+    reading::print_all(&rt)
 }
