@@ -1,11 +1,11 @@
 -- The bytes that hold claims are their encoding, and the encoding is read as the claims. Assumes nothing.
-use Rattle.std.proofs.Common.{◌≡◌, ℕ, zero, suc, ◌+◌, ◌<◌, ◌≤◌, true, cond, eqb, ltb, leb, List, [], ◌∷◌, ◌++◌, length, drop, Some, None, Ok, Err, Option, Result, sym, refl, ap, ◌∙◌, subst, ⊎_elim, arith}
+use Rattle.std.proofs.Common.{◌≡◌, ℕ, zero, suc, ◌+◌, ◌<◌, ◌≤◌, true, eqb, ltb, leb, List, [], ◌∷◌, ◌++◌, length, drop, Some, None, Ok, Err, Option, Result, sym, refl, ap, ◌∙◌, subst, ⊎_elim, arith}
 use Rattle.std.specs.List.{flat_map}
 use Rattle.std.proofs.lemmas.List.{append_assoc, nil_from_length, length-drop, drop-drop}
 use Rattle.std.proofs.ByRecursion.{All-drop}
 use Rattle.std.proofs.lemmas.Bool.{leb-true, ltb-true, eqb-true, le-leb, eq-eqb, and_parts, and_from, cond-true}
 use Rattle.refusal.specs.Results.{err_not_ok, passed}
-use Rattle.refusal.specs.declared.Reason.TheVariants.{Kind, Length, Limit, LevelKind, AtomCount}
+use Rattle.refusal.specs.declared.Reason.TheVariants.{Limit, LevelKind, AtomCount}
 use Rattle.refusal.specs.declared.Refusal.{Refusal}
 use Rattle.records.specs.Words.{Bytes, two_bytes, header_of, word_at}
 use Rattle.records.specs.declared.Header.{Header}
@@ -15,7 +15,7 @@ use Rattle.rules.specs.Tests.{all}
 use Rattle.levels.specs.Stored.{Stored}
 use Rattle.certificate.specs.Claims.{atoms_of}
 use Rattle.certificate.specs.Encoding.{head_bytes, claim_bytes, end_bytes, encoding, Storable}
-use Rattle.certificate.specs.Reading.{refusal_at, refuse, by_numbers, by_head_header, stated_kind, claim_of, atom_fault, after_end, after_claim, by_fault, claims_from, by_kind, claims_in}
+use Rattle.certificate.specs.Reading.{refuse, by_numbers, by_head_header, stated_kind, claim_of, atom_fault, after_end, after_claim, by_fault, claims_from, by_kind, claims_in}
 use Rattle.certificate.specs.Relation.{ReadsExactly}
 use Rattle.certificate.specs.declared.Claim.{Claim}
 use Rattle.certificate.specs.declared.Opened.TheVariants.{End, ClaimRecord}

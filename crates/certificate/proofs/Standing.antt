@@ -1,14 +1,12 @@
 -- When a record stands here, and when an atom passes, both ways round. Assumes nothing.
-use Rattle.std.proofs.Common.{◌≡◌, ℕ, ◌+◌, ◌≤◌, Bool, true, false, cond, eqb, ltb, leb, List, length, Some, None, Ok, Err, Option, Result, sym, refl, ap, ◌∙◌, arith}
+use Rattle.std.proofs.Common.{◌≡◌, ℕ, ◌+◌, ◌≤◌, Bool, true, false, cond, eqb, ltb, leb, List, length, Some, None, Ok, Option, sym, refl, ap, ◌∙◌, arith}
 use Rattle.std.proofs.lemmas.Bool.{leb-true, eqb-true, le-leb, eq-eqb, cond-true}
 use Rattle.refusal.specs.Results.{err_not_ok, some_not_none, passed}
-use Rattle.refusal.specs.declared.Reason.{Reason}
 use Rattle.refusal.specs.declared.Reason.TheVariants.{Cut, Kind, Length, Atom, Order, Trailing}
-use Rattle.refusal.specs.declared.Refusal.{Refusal}
 use Rattle.records.specs.Words.{header_of}
 use Rattle.records.specs.declared.Header.{Header}
 use Rattle.rules.specs.Program.{within}
-use Rattle.certificate.specs.Reading.{refusal_at, refuse, claim_length, opened_claim, by_header, opened, atom_fault, ended}
+use Rattle.certificate.specs.Reading.{refuse, claim_length, opened_claim, by_header, opened, atom_fault, ended}
 use Rattle.certificate.specs.declared.Opened.TheVariants.{End, ClaimRecord}
 
 -- A CLAIM'S RECORD

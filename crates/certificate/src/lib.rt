@@ -1,4 +1,6 @@
 // Certificates: the atoms that a solver claims to be in, each with a level or none.
+#![tactic(auto)]
+
 ghost use Rattle.std.specs.Prelude.{◌≡◌, ◌+◌, ◌<◌, ◌≤◌, true, length, drop};
 ghost use Rattle.certificate.specs.Reading.{refusal_at, stated_kind, opened, opened_claim, Fitting, claim_length, atom_fault, checked, ended, level_in, claim_of, claim_at, claims_from, claims_in, counted};
 ghost use Rattle.certificate.specs.Relation.{ReadsExactly, NeverTooMany};
@@ -31,9 +33,9 @@ pub struct Step<L> {
 
 // How many claims a certificate for n atoms has.
 pub fn check<L: StoredLevel>(bytes: &[u8], n: u16) -> Result<u16, Refusal>
-    ensures value { result ≡ counted (claims_in width decode n kind bytes.now) }
-    ensures exact { ReadsExactly width encode decode n kind bytes.now }
-    ensures never { NeverTooMany width decode n kind bytes.now }
+    ensures value { result ≡ counted (claims_in L.width L.decode n L.kind bytes.now) }
+    ensures exact { ReadsExactly L.width L.encode L.decode n L.kind bytes.now }
+    ensures never { NeverTooMany L.width L.decode n L.kind bytes.now }
 {
     let stated = read_kind(bytes, n)?;
     if stated != L::level_kind() {
@@ -44,7 +46,7 @@ pub fn check<L: StoredLevel>(bytes: &[u8], n: u16) -> Result<u16, Refusal>
 
 // The claim in the record that begins at a place, where one stands there.
 pub fn next_claim<L: StoredLevel>(bytes: &[u8], place: usize) -> Option<Step<L>>
-    ensures value { result ≡ claim_at width decode bytes.now place }
+    ensures value { result ≡ claim_at L.width L.decode bytes.now place }
 {
     if place > bytes.len() {
         return None;
@@ -138,8 +140,8 @@ fn open_claim(rest: &[u8], place: usize, width: usize, size: u16) -> Result<Open
 // The claim in a record of `size` bytes.
 fn read_claim<L: StoredLevel>(rest: &[u8], size: u16) -> Claim<L>
     requires whole { 4 + size ≤ length rest.now }
-    requires sized { claim_length width size ≡ true }
-    ensures value { result ≡ claim_of width decode rest.now size }
+    requires sized { claim_length L.width size ≡ true }
+    ensures value { result ≡ claim_of L.width L.decode rest.now size }
 {
     Claim {
         atom: read_word(rest, 4).unwrap_or(0),
@@ -149,8 +151,8 @@ fn read_claim<L: StoredLevel>(rest: &[u8], size: u16) -> Claim<L>
 
 fn read_level<L: StoredLevel>(rest: &[u8], size: u16) -> Entry<L>
     requires whole { 4 + size ≤ length rest.now }
-    requires sized { claim_length width size ≡ true }
-    ensures value { result ≡ level_in width decode rest.now size }
+    requires sized { claim_length L.width size ≡ true }
+    ensures value { result ≡ level_in L.width L.decode rest.now size }
 {
     if size == 2 {
         return Entry::Empty;
@@ -189,7 +191,7 @@ fn check_end(rest: &[u8], place: usize) -> Result<(), Refusal>
 fn count_claims<L: StoredLevel>(bytes: &[u8], n: u16) -> Result<u16, Refusal>
     requires begun { 8 ≤ length bytes.now }
     requires small { length bytes.now ≤ 65000 }
-    ensures value { result ≡ counted (claims_from width decode n n 0 (drop 8 bytes.now) 8) }
+    ensures value { result ≡ counted (claims_from L.width L.decode n n 0 (drop 8 bytes.now) 8) }
 {
     let mut count = 0u16;
     let mut last = 0u16;

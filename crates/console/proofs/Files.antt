@@ -1,5 +1,5 @@
 -- Accepted files hold a program and a stable set of it. Assumes nothing.
-use Rattle.std.proofs.Common.{◌≡◌, ℕ, Bool, true, false, cond, eqb, ◌⊎◌, List, Ok, Err, Result, sym, refl, ap, ◌∙◌, subst, inl, inr, arith}
+use Rattle.std.proofs.Common.{◌≡◌, ℕ, Bool, true, false, cond, eqb, List, Ok, Err, Result, refl, subst, inl, inr}
 use mathlib.Core.Path.{fun_ext}
 use Rattle.refusal.specs.Results.{err_not_ok}
 use Rattle.refusal.specs.declared.Reason.TheVariants.{LevelKind}
@@ -24,7 +24,6 @@ use Rattle.certificate.proofs.Relation as certificate_relation
 use Rattle.survey.specs.Making.{made_marks, made_entries}
 use Rattle.survey.proofs.Made.{makes}
 use Rattle.verdict.proofs.Accepted.{judged_is_stable}
-use Rattle.verdict.specs.declared.Verdict.{Verdict}
 use Rattle.verdict.specs.declared.Verdict.TheVariants.{Accepted}
 use Rattle.console.specs.Accepted.{Claims, StableFiles, AcceptsOnlyStableFiles}
 use Rattle.console.specs.Answer.{judged_claims, by_level_kind, by_program, answer_for}

@@ -31,7 +31,7 @@ pub fn answer(program: &[u8], certificate: &[u8]) -> Result<Verdict, Refusal>
 
 // The level kind is taken from the certificate.
 pub fn answer_over<S: RuleSource>(source: &S, certificate: &[u8]) -> Result<Verdict, Refusal>
-    ensures value { result ≡ by_program certificate.now (Ok (meaning source.now)) }
+    ensures value { result ≡ by_program certificate.now (Ok (S.meaning source.now)) }
 {
     let mut marks = [0u8; MAX_ATOMS];
     match read_kind(certificate, source.atoms())? {
@@ -60,7 +60,7 @@ fn judge_within<S: RuleSource, L: StoredLevel>(
 ) -> Result<Verdict, Refusal>
     requires marks { length marks.old ≡ 4096 }
     requires entries { length entries.old ≡ 4096 }
-    ensures value { result ≡ judged_claims L.Level.below (meaning source.now) (claims_in width decode (meaning source.now).atoms kind certificate.now) }
+    ensures value { result ≡ judged_claims L.Level.below (S.meaning source.now) (claims_in L.width L.decode (S.meaning source.now).atoms L.kind certificate.now) }
 {
     let n = usize::from(source.atoms());
     judge_in::<S, L>(source, certificate, &mut marks[0..n], &mut entries[0..n])
@@ -73,9 +73,9 @@ fn judge_in<S: RuleSource, L: StoredLevel>(
     marks: &mut [u8],
     entries: &mut [Entry<L>],
 ) -> Result<Verdict, Refusal>
-    requires marks { length marks.old ≡ (meaning source.now).atoms }
-    requires entries { length entries.old ≡ (meaning source.now).atoms }
-    ensures value { result ≡ judged_claims L.Level.below (meaning source.now) (claims_in width decode (meaning source.now).atoms kind certificate.now) }
+    requires marks { length marks.old ≡ (S.meaning source.now).atoms }
+    requires entries { length entries.old ≡ (S.meaning source.now).atoms }
+    ensures value { result ≡ judged_claims L.Level.below (S.meaning source.now) (claims_in L.width L.decode (S.meaning source.now).atoms L.kind certificate.now) }
 {
     let mut levels = LevelTable::over(entries);
     can_make_from(source, marks, &levels, certificate)?;

@@ -1,5 +1,7 @@
 // `copy`: reads `program.bin` in the current folder, puts the atoms that its arguments name as inputs over it, writes all of it
 // to `copy.bin`, and prints what it did.
+#![tactic(auto)]
+
 use console::line::write_line;
 use files::read_front;
 use inputs::Inputs;

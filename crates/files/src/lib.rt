@@ -1,4 +1,6 @@
 // Reading a file of records from the disk.
+#![tactic(auto)]
+
 ghost use Rattle.std.specs.Prelude.{◌≤◌, length, IfOk, vec_len};
 
 use records::MAX_BYTES;

@@ -1,7 +1,7 @@
 -- Proofs: a lawful program with inputs is lawful. Assumes nothing.
 use Rattle.std.specs.Prelude.{◌≡◌, ℕ, Bool, true, false, cond, List, [], ◌∷◌, ◌++◌, map, filter, nat_le, refl}
 use Rattle.std.proofs.Common.{arith, length-take}
-use Rattle.std.specs.List.{AllByRecursion as All}
+use Rattle.std.specs.List.{AllByRecursion}
 use Rattle.std.proofs.ByRecursion.{All-take, All-append}
 use Rattle.std.proofs.lemmas.Bool.{leb-true, and_parts}
 use Rattle.rules.specs.Program.{Program, Lawful, LawfulRule, within}
@@ -20,11 +20,11 @@ module _ (n : ℕ) where
         few_atoms = omega arith;
       }
 
-  one_more : (a : ℕ) (inputs : List ℕ) → All (LawfulRule n) (facts n inputs) → (b : Bool) → within n a ≡ b → All (LawfulRule n) (map fact (cond b (a ∷ filter (within n) inputs) (filter (within n) inputs)))
+  one_more : (a : ℕ) (inputs : List ℕ) → AllByRecursion (LawfulRule n) (facts n inputs) → (b : Bool) → within n a ≡ b → AllByRecursion (LawfulRule n) (map fact (cond b (a ∷ filter (within n) inputs) (filter (within n) inputs)))
   one_more a inputs more true is = (fact_lawful a is, more)
   one_more a inputs more false is = more
 
-  facts_lawful : (inputs : List ℕ) → All (LawfulRule n) (facts n inputs)
+  facts_lawful : (inputs : List ℕ) → AllByRecursion (LawfulRule n) (facts n inputs)
   facts_lawful [] = tt
   facts_lawful (a ∷ inputs) = one_more a inputs (facts_lawful inputs) (within n a) refl
 

@@ -1,4 +1,6 @@
 // The input layer: a rule source over any source, with input atoms of its own as facts after its rules.
+#![tactic(auto)]
+
 ghost use Rattle.std.specs.Prelude.{◌≡◌, []};
 ghost use Rattle.inputs.specs.Held.{held};
 ghost use Rattle.inputs.specs.Layer.{with_inputs, refusal_at, room_checked, put_answer, inputs_after, program_after};
@@ -24,7 +26,7 @@ impl<S: RuleSource> Inputs<S> {
     pub fn over(below: S) -> Inputs<S>
         ensures below { result.below ≡ below }
         ensures inputs { held result.inputs ≡ [] }
-        ensures same { with_inputs (meaning result.below) (held result.inputs) ≡ meaning below }
+        ensures same { with_inputs (S.meaning result.below) (held result.inputs) ≡ S.meaning below }
     {
         Inputs {
             below,
@@ -34,10 +36,10 @@ impl<S: RuleSource> Inputs<S> {
 
     // Puts an atom as an input; one that is there already is accepted, and the list stays.
     pub fn put(&mut self, atom: u16) -> Result<(), Refusal>
-        ensures value { result ≡ put_answer (meaning self.old.below) (held self.old.inputs) atom }
+        ensures value { result ≡ put_answer (S.meaning self.old.below) (held self.old.inputs) atom }
         ensures below { self.new.below ≡ self.old.below }
-        ensures inputs { held self.new.inputs ≡ inputs_after (meaning self.old.below) (held self.old.inputs) atom }
-        ensures listed { with_inputs (meaning self.new.below) (held self.new.inputs) ≡ program_after (meaning self.old.below) (held self.old.inputs) atom }
+        ensures inputs { held self.new.inputs ≡ inputs_after (S.meaning self.old.below) (held self.old.inputs) atom }
+        ensures listed { with_inputs (S.meaning self.new.below) (held self.new.inputs) ≡ program_after (S.meaning self.old.below) (held self.old.inputs) atom }
     {
         if !is_within(self.below.atoms(), atom) {
             return Err(refuse(Reason::CallAtom, usize::from(atom)));
@@ -54,7 +56,7 @@ impl<S: RuleSource> Inputs<S> {
 impl<S: RuleSource> Inputs<S> {
     // Refuses one more input: the limit of inputs, then that of rules.
     fn check_room(&self) -> Result<(), Refusal>
-        ensures value { result ≡ room_checked (meaning self.now.below) (held self.now.inputs) }
+        ensures value { result ≡ room_checked (S.meaning self.now.below) (held self.now.inputs) }
     {
         if self.inputs.as_slice().len() >= MAX_INPUTS {
             return Err(refuse(Reason::Limit, MAX_INPUTS));

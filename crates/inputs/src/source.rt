@@ -43,7 +43,7 @@ impl<S: RuleSource> RuleSource for Inputs<S> {
 impl<S: RuleSource> Inputs<S> {
     // The head of a rule that is a fact of this layer.
     fn fact_head(&self, rule: u16) -> Option<u16>
-        ensures value { result ≡ fact_at (meaning self.now.below) (held self.now.inputs) rule }
+        ensures value { result ≡ fact_at (S.meaning self.now.below) (held self.now.inputs) rule }
     {
         let below = self.below.rules();
         if rule <= below || rule > MAX_RULES {

@@ -1,4 +1,6 @@
 // `judge`: reads `program.bin` and `certificate.bin` in the current folder, and prints one line.
+#![tactic(auto)]
+
 use console::line::line_for;
 use files::read_front;
 use std::io;

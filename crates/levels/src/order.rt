@@ -1,5 +1,5 @@
 // The traits of a level order and of levels that are stored in files.
-ghost use Rattle.std.specs.Prelude.{◌≡◌, ℕ, ◌-◌, Bool, ◌&&◌, leb, List, ◌++◌, length, replicate, if◌then◌else◌, Some, None, nat_eq, nat_le};
+ghost use Rattle.std.specs.Prelude.{◌≡◌, ℕ, ◌-◌, Bool, ◌&&◌, List, ◌++◌, length, replicate, if◌then◌else◌, Some, None, nat_eq, nat_le};
 ghost use Rattle.levels.specs.Order.{Order};
 ghost use Rattle.levels.specs.Stored.{Stored};
 
@@ -25,7 +25,7 @@ pub trait Level: Copy + Sized {
 
     // Rung k, counted from 1.
     fn rung_at(k: u32) -> Option<Self>
-        ensures value { result ≡ (if leb 1 k && nat_le k count then Some (rung k) else None) };
+        ensures value { result ≡ (if nat_le 1 k && nat_le k count then Some (rung k) else None) };
 }
 
 // A level order whose levels are stored in files, under a kind and in a fixed number of bytes.

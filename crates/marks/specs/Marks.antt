@@ -1,5 +1,5 @@
 -- What a mark table says: byte a - 1 is that of the atom a; 0 is out, 1 is in, 2 is in and doubted. Assumes nothing.
-use Rattle.std.specs.Prelude.{ℕ, ◌-◌, Bool, cond, not, ◌||◌, List, length, set, Option, ◌==◌, nat_le, slice_index, slice_set}
+use Rattle.std.specs.Prelude.{ℕ, ◌-◌, Bool, cond, not, ◌||◌, List, length, Option, ◌==◌, nat_le, slice_index, slice_set}
 use Rattle.rules.specs.Tests.{lowest, tally}
 
 -- the byte has a meaning

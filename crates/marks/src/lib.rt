@@ -1,4 +1,6 @@
 // Mark tables: this crate alone knows what a mark byte means.
+#![tactic(auto)]
+
 ghost use Rattle.std.specs.Prelude.{◌≡◌, length, replicate};
 ghost use Rattle.marks.specs.Marks.{lawful_byte, in_byte, marked, lowest_unlawful, marked_count, with_in};
 

@@ -4,7 +4,7 @@ use Rattle.std.proofs.Common.{ap, ◌∙◌, mod-eq_of_lt, arith}
 use Rattle.std.proofs.Math.Arith.{bin_ind}
 use Rattle.std.specs.Int.Bits.{and_step}
 use Rattle.std.proofs.lemmas.Nat.{and_le_l, and_mask, pow_below}
-use Rattle.std.specs.List.{AllByRecursion as All}
+use Rattle.std.specs.List.{AllByRecursion}
 use Rattle.orders.specs.LittleEndian.{bytes_of, number_in}
 
 pub length-bytes_of : (width n : ℕ) → length (bytes_of width n) ≡ width
@@ -16,7 +16,7 @@ pub number_in-bytes_of : (width n : ℕ) → number_in (bytes_of (suc width) n) 
 number_in-bytes_of zero n = omega arith
 number_in-bytes_of (suc width) n = omega (arith, number_in-bytes_of width (n / 256))
 
-pub bytes_of-number_in : (bytes : List ℕ) → All (λ b. b < 256) bytes → bytes_of (length bytes) (number_in bytes) ≡ bytes
+pub bytes_of-number_in : (bytes : List ℕ) → AllByRecursion (λ b. b < 256) bytes → bytes_of (length bytes) (number_in bytes) ≡ bytes
 bytes_of-number_in [] small = refl
 bytes_of-number_in (b ∷ []) small = ap (λ n. n ∷ []) (omega arith)
 bytes_of-number_in (b ∷ c ∷ bytes) small =

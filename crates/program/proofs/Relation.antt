@@ -1,6 +1,6 @@
 -- The bytes that hold a program are its encoding, and the encoding is read as the program. Assumes nothing.
 use Rattle.std.proofs.Common.{◌≡◌, ℕ, zero, suc, ◌+◌, ◌<◌, ◌≤◌, ◌&&◌, leb, List, [], ◌∷◌, ◌++◌, length, drop, Some, Ok, sym, refl, ap, ◌∙◌, subst, zero-add, arith}
-use Rattle.std.specs.List.{flat_map, AllByRecursion as All}
+use Rattle.std.specs.List.{flat_map, AllByRecursion}
 use Rattle.std.proofs.lemmas.List.{append_assoc, nil_from_length, length-drop, drop-drop}
 use Rattle.std.proofs.ByRecursion.{All-drop}
 use Rattle.std.proofs.lemmas.Bool.{le-leb, and_from, cond-true}
@@ -24,7 +24,7 @@ use Rattle.program.proofs.Encoded.{rule_words, contents_size, rule_of_bytes, wri
 -- FROM THE ENCODING: the rules
 
 module _ (n stated : ℕ) where
-  pub rules_written : (rs : List Rule) (room count place : ℕ) → All (LawfulRule n) rs → length rs ≤ room → count + length rs ≡ stated
+  pub rules_written : (rs : List Rule) (room count place : ℕ) → AllByRecursion (LawfulRule n) rs → length rs ≤ room → count + length rs ≡ stated
       → rules_from room n stated count (flat_map rule_bytes rs ++ end_bytes) place ≡ Ok rs
   rules_written [] room count place lawful fit sum =
       rules_end n stated count end_bytes place room (opened_from_end end_bytes place refl)

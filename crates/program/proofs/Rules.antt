@@ -1,5 +1,4 @@
 -- One turn of reading the records: what is left gives the answer. Assumes nothing.
-use denote.Slice.{shr_slice_at}
 use Rattle.std.proofs.Common.{◌≡◌, ℕ, zero, suc, ◌+◌, ◌-◌, ◌<◌, ◌≤◌, List, [], ◌∷◌, length, take, drop, set, Some, None, Ok, Err, Option, Result, sym, refl, ap, ◌∙◌, add-zero, arith}
 use Rattle.std.proofs.lemmas.List.{take_rest, drop-drop}
 use Rattle.refusal.specs.declared.Reason.{Reason}
@@ -61,11 +60,11 @@ module _ (bytes : List ℕ) (n stated : ℕ) (starts : List ℕ) (count place : 
   abbrev pub left_of : List ℕ
   left_of = take (length bytes - place) (drop place bytes)
 
-  shr_slice_at : indexed_from n starts count place (rules_from (8000 - count) n stated count left_of place) ≡ answer
-  shr_slice_at = ap (λ t. indexed_from n starts count place (rules_from (8000 - count) n stated count t place)) (take_rest bytes place) ∙ inv
+  at_slice : indexed_from n starts count place (rules_from (8000 - count) n stated count left_of place) ≡ answer
+  at_slice = ap (λ t. indexed_from n starts count place (rules_from (8000 - count) n stated count t place)) (take_rest bytes place) ∙ inv
 
   given_answer : (x : Result (List Rule) Refusal) → rules_from (8000 - count) n stated count left_of place ≡ x → indexed_from n starts count place x ≡ answer
-  given_answer x is = ap (indexed_from n starts count place) (sym is) ∙ shr_slice_at
+  given_answer x is = ap (indexed_from n starts count place) (sym is) ∙ at_slice
 
   pub turn_refused : (e : Refusal) → Err e ≡ opened left_of place → Err e ≡ answer
   turn_refused e is = given_answer (Err e) (rules_refused n stated count left_of place (8000 - count) e (sym is))

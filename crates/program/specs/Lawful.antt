@@ -2,7 +2,7 @@
 use Rattle.std.specs.Prelude.{◌≡◌, ℕ, zero, suc, ◌+◌, ◌≤◌, List, length, drop, Ok, Err, Result, ◌≢◌, nat_le, refl}
 use Rattle.std.proofs.Common.{sym, ap, subst, ◌∙◌, arith}
 use Rattle.std.proofs.lemmas.Bool.{leb-true}
-use Rattle.std.specs.List.{AllByRecursion as All}
+use Rattle.std.specs.List.{AllByRecursion}
 use Rattle.refusal.specs.declared.Refusal.{Refusal}
 use Rattle.refusal.specs.Results.{err_not_ok, passed}
 use Rattle.rules.specs.Program.{Rule, Program, LawfulRule, Lawful}
@@ -14,7 +14,7 @@ use Rattle.program.specs.declared.reader.FileHead.{FileHead}
 
 -- each rule that is read is lawful, and they are no more than there is room for
 abbrev pub Sound : ℕ → ℕ → List Rule → Type 0
-Sound n room rules = All (LawfulRule n) rules × (length rules ≤ room)
+Sound n room rules = AllByRecursion (LawfulRule n) rules × (length rules ≤ room)
 
 no_room : (less : ℕ) → zero ≢ suc less
 no_room less e = omega arith

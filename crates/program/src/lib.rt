@@ -1,3 +1,5 @@
 // Reading program files.
+#![tactic(auto)]
+
 pub mod parts;
 pub mod reader;

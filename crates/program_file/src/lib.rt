@@ -1,4 +1,6 @@
 // The checked program file as a rule source.
+#![tactic(auto)]
+
 ghost use Rattle.std.specs.Prelude.{◌≡◌};
 ghost use Rattle.program.specs.Reading.{program_in, atoms_read};
 

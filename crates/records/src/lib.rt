@@ -1,4 +1,6 @@
 // Records: a 16-bit length, a 16-bit kind, then that many bytes. Numbers have their low byte first.
+#![tactic(auto)]
+
 ghost use Rattle.std.specs.Prelude.{◌≡◌, ◌+◌, ◌*◌};
 ghost use Rattle.records.specs.Words.{word_of, header_of, first_word, word_at};
 

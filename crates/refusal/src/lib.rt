@@ -1,4 +1,6 @@
 // What a refusal is: the reason, the layer that refused, and the place.
+#![tactic(auto)]
+
 ghost use Rattle.std.specs.Prelude.{◌≡◌};
 ghost use Rattle.refusal.specs.Numbers.{number_of, letter_of};
 ghost use Rattle.refusal.specs.Tables.{length_checked};

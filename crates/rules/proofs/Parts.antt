@@ -1,6 +1,6 @@
 -- The parts of a rule, as the questions walk over them. Assumes nothing.
 use Rattle.std.proofs.Common.{◌≡◌, ℕ, zero, suc, ◌+◌, ◌-◌, ◌<◌, ◌≤◌, Bool, true, false, cond, eqb, List, [], ◌∷◌, length, get_or, drop, Some, None, Option, unwrap_or, sym, refl, ap, ◌∙◌, arith}
-use Rattle.std.specs.List.{slice_get, AllByRecursion as All}
+use Rattle.std.specs.List.{slice_get, AllByRecursion}
 use Rattle.std.specs.Option.{option_map}
 use Rattle.std.proofs.ByRecursion.{All-from_get_or}
 use Rattle.std.proofs.lemmas.List.{at_drop_all}
@@ -39,12 +39,12 @@ OfRule P None = Unit {0}
 OfRule P (Some r) = P r
 
 module _ (P : Rule → Type 0) where
-  of_nth : (rules : List Rule) (i : ℕ) → All P rules → OfRule P (slice_get rules i)
+  of_nth : (rules : List Rule) (i : ℕ) → AllByRecursion P rules → OfRule P (slice_get rules i)
   of_nth [] i h = tt
   of_nth (r ∷ rules) zero h = h.0
   of_nth (r ∷ rules) (suc i) h = of_nth rules i h.1
 
-  pub of_rule_at : (p : Program) (k : ℕ) → All P p.rules → OfRule P (rule_at p k)
+  pub of_rule_at : (p : Program) (k : ℕ) → AllByRecursion P p.rules → OfRule P (rule_at p k)
   of_rule_at p k h = elim (eqb k 0) as (λ b. OfRule P (cond b None (slice_get p.rules (k - 1)))) [ true ↦ tt | false ↦ of_nth p.rules (k - 1) h ]
 
 few : (n : ℕ) (r : Option Rule) → OfRule (LawfulRule n) r → length (unwrap_or (option_map (λ r. r.positive) r) []) + length (unwrap_or (option_map (λ r. r.negative) r) []) ≤ 255
@@ -60,15 +60,15 @@ module _ (p : Program) where
   pub rule_at_nth : (k : ℕ) → 1 ≤ k → rule_at p k ≡ slice_get p.rules (k - 1)
   rule_at_nth k some = cond-false (eqb k 0) None (slice_get p.rules (k - 1)) (ne_eqb k 0 (λ z. omega arith))
 
-  pub rule_at_getD : (k : ℕ) → 1 ≤ k → k ≤ length p.rules → rule_at p k ≡ Some (get_or p.rules (k - 1) no_rule)
-  rule_at_getD k some within = rule_at_nth k some ∙ slice_get-get_or p.rules (k - 1) no_rule (omega arith)
+  pub rule_at-get_or : (k : ℕ) → 1 ≤ k → k ≤ length p.rules → rule_at p k ≡ Some (get_or p.rules (k - 1) no_rule)
+  rule_at-get_or k some within = rule_at_nth k some ∙ slice_get-get_or p.rules (k - 1) no_rule (omega arith)
 
 -- what holds of each rule by its number
-pub each_rule : (P : Rule → Type 0) (p : Program) → ((k : ℕ) (r : Rule) → rule_at p k ≡ Some r → 1 ≤ k → k ≤ length p.rules → P r) → All P p.rules
+pub each_rule : (P : Rule → Type 0) (p : Program) → ((k : ℕ) (r : Rule) → rule_at p k ≡ Some r → 1 ≤ k → k ≤ length p.rules → P r) → AllByRecursion P p.rules
 each_rule P p h =
     All-from_get_or P p.rules no_rule
     (λ i l. let place : i + 1 - 1 ≡ i = omega arith in
-    h (i + 1) (get_or p.rules i no_rule) (rule_at_getD p (i + 1) (omega arith) (omega arith) ∙ ap (λ j. Some (get_or p.rules j no_rule)) place) (omega arith) (omega arith))
+    h (i + 1) (get_or p.rules i no_rule) (rule_at-get_or p (i + 1) (omega arith) (omega arith) ∙ ap (λ j. Some (get_or p.rules j no_rule)) place) (omega arith) (omega arith))
 
 module _ (p : Program) (k : ℕ) where
   -- rule k passes; an absent rule does not
@@ -82,12 +82,12 @@ module _ (p : Program) (k : ℕ) where
 module _ (test : Rule → Bool) (p : Program) (k : ℕ) where
   pub any_rule_from_here : 1 ≤ k → k ≤ length p.rules → passes_at p k test ≡ true → any_rule_from p k test ≡ true
   any_rule_from_here some within t =
-      any_passes test p.rules (k - 1) (get_or p.rules (k - 1) no_rule) (sym (rule_at_nth p k some) ∙ rule_at_getD p k some within) (sym (ap (λ o. unwrap_or (option_map test o) false) (rule_at_getD p k some within)) ∙ t)
+      any_passes test p.rules (k - 1) (get_or p.rules (k - 1) no_rule) (sym (rule_at_nth p k some) ∙ rule_at-get_or p k some within) (sym (ap (λ o. unwrap_or (option_map test o) false) (rule_at-get_or p k some within)) ∙ t)
 
   pub any_rule_from_more : 1 ≤ k → k ≤ length p.rules → passes_at p k test ≡ false → any_rule_from p k test ≡ any_rule_from p (k + 1) test
   any_rule_from_more some within t =
       let next : k - 1 + 1 ≡ k + 1 - 1 = omega arith in
-      any_more test p.rules (k - 1) (get_or p.rules (k - 1) no_rule) (sym (rule_at_nth p k some) ∙ rule_at_getD p k some within) (sym (ap (λ o. unwrap_or (option_map test o) false) (rule_at_getD p k some within)) ∙ t) ∙ ap (λ i. any test (drop i p.rules)) next
+      any_more test p.rules (k - 1) (get_or p.rules (k - 1) no_rule) (sym (rule_at_nth p k some) ∙ rule_at-get_or p k some within) (sym (ap (λ o. unwrap_or (option_map test o) false) (rule_at-get_or p k some within)) ∙ t) ∙ ap (λ i. any test (drop i p.rules)) next
 
   pub any_rule_from_all : length p.rules < k → any_rule_from p k test ≡ false
   any_rule_from_all past = at_drop_all (any test) p.rules (k - 1) (omega arith)

@@ -1,9 +1,9 @@
 -- Lemmas on tests over lists and over the numbers 1 to n. Assumes nothing.
 use Rattle.std.proofs.Common.{◌≡◌, ℕ, zero, suc, ◌+◌, ◌-◌, ◌<◌, ◌≤◌, Bool, true, false, cond, ◌&&◌, ◌||◌, List, [], ◌∷◌, map, length, drop, is_some, Some, None, filter, Option, unwrap_or, sym, refl, ap, ◌∙◌, subst, ⊎_elim, arith}
-use Rattle.std.specs.List.{slice_get, AllByRecursion as All}
+use Rattle.std.specs.List.{slice_get, AllByRecursion}
 use Rattle.std.proofs.lemmas.List.{at_drop_all, drop_more}
 use Rattle.std.proofs.lemmas.Option.{slice_get-get_or, slice_get_past}
-use Rattle.std.proofs.lemmas.Bool.{cases_lt, both_ways, and_parts, and_from, or_cases, or_parts, or_from, cases_Bool, cases_eq, cond-true, cond-false, cond_both}
+use Rattle.std.proofs.lemmas.Bool.{cases_lt, both_ways, and_parts, and_from, or_cases, or_from, cases_Bool, cases_eq, cond-true, cond-false, cond_both}
 use Rattle.rules.specs.Tests.{all, any, first_from, lowest, tally_from, tally}
 
 pub some_not_none : {X : Type 0} {x : X} → Some x ≡ None → ⊥
@@ -13,42 +13,42 @@ pub some_same : {X : Type 0} {x y : X} → Some x ≡ Some y → x ≡ y
 some_same {x = x} e = ap (λ o. unwrap_or o x) e
 
 module _ {X : Type 0} (P Q : X → Type 0) where
-  pub all_both : (xs : List X) → All P xs → All Q xs → All (λ x. P x × Q x) xs
+  pub all_both : (xs : List X) → AllByRecursion P xs → AllByRecursion Q xs → AllByRecursion (λ x. P x × Q x) xs
   all_both [] h k = tt
   all_both (x ∷ xs) h k = ((h.0, k.0), all_both xs h.1 k.1)
 
 module _ {X : Type 0} (test : X → Bool) where
-  pub each_from_all : (xs : List X) → all test xs ≡ true → All (λ x. test x ≡ true) xs
+  pub each_from_all : (xs : List X) → all test xs ≡ true → AllByRecursion (λ x. test x ≡ true) xs
   each_from_all [] e = tt
   each_from_all (x ∷ xs) e = let parts = and_parts (test x) (all test xs) e in (parts.0, each_from_all xs parts.1)
 
-  pub all_from_each : (xs : List X) → All (λ x. test x ≡ true) xs → all test xs ≡ true
+  pub all_from_each : (xs : List X) → AllByRecursion (λ x. test x ≡ true) xs → all test xs ≡ true
   all_from_each [] h = refl
   all_from_each (x ∷ xs) h = and_from (test x) (all test xs) h.0 (all_from_each xs h.1)
 
-  pub any_from_none : (xs : List X) → All (λ x. test x ≡ false) xs → any test xs ≡ false
+  pub any_from_none : (xs : List X) → AllByRecursion (λ x. test x ≡ false) xs → any test xs ≡ false
   any_from_none [] h = refl
   any_from_none (x ∷ xs) h = or_from (test x) (any test xs) h.0 (any_from_none xs h.1)
 
   -- what each passing element gives, where some element passes
-  pub given_by_any : {G : Type 0} (xs : List X) → any test xs ≡ true → All (λ x. test x ≡ true → G) xs → G
+  pub given_by_any : {G : Type 0} (xs : List X) → any test xs ≡ true → AllByRecursion (λ x. test x ≡ true → G) xs → G
   given_by_any [] e h = absurd (both_ways false refl e)
   given_by_any (x ∷ xs) e h = ⊎_elim h.0 (λ rest. given_by_any xs rest h.1) (or_cases (test x) (any test xs) e)
 
   module _ (P : X → Type 0) where
-    pub all_kept_by_from : (xs : List X) → All (λ x. test x ≡ true → P x) xs → All P (filter test xs)
+    pub all_kept_by_from : (xs : List X) → AllByRecursion (λ x. test x ≡ true → P x) xs → AllByRecursion P (filter test xs)
     all_kept_by_from [] h = tt
-    all_kept_by_from (x ∷ xs) h = cond_both (test x) (x ∷ filter test xs) (filter test xs) (All P) (λ e. (h.0 e, all_kept_by_from xs h.1)) (λ e. all_kept_by_from xs h.1)
+    all_kept_by_from (x ∷ xs) h = cond_both (test x) (x ∷ filter test xs) (filter test xs) (AllByRecursion P) (λ e. (h.0 e, all_kept_by_from xs h.1)) (λ e. all_kept_by_from xs h.1)
 
-    pub each_from_kept_by : (xs : List X) → All P (filter test xs) → All (λ x. test x ≡ true → P x) xs
+    pub each_from_kept_by : (xs : List X) → AllByRecursion P (filter test xs) → AllByRecursion (λ x. test x ≡ true → P x) xs
     each_from_kept_by [] h = tt
     each_from_kept_by (x ∷ xs) h =
         ⊎_elim
-        (λ e. let k : All P (x ∷ filter test xs) = subst (All P) (cond-true (test x) (x ∷ filter test xs) (filter test xs) e) h in ((λ _. k.0), each_from_kept_by xs k.1))
-        (λ e. ((λ t. absurd (both_ways (test x) e t)), each_from_kept_by xs (subst (All P) (cond-false (test x) (x ∷ filter test xs) (filter test xs) e) h)))
+        (λ e. let k : AllByRecursion P (x ∷ filter test xs) = subst (AllByRecursion P) (cond-true (test x) (x ∷ filter test xs) (filter test xs) e) h in ((λ _. k.0), each_from_kept_by xs k.1))
+        (λ e. ((λ t. absurd (both_ways (test x) e t)), each_from_kept_by xs (subst (AllByRecursion P) (cond-false (test x) (x ∷ filter test xs) (filter test xs) e) h)))
         (cases_Bool (test x))
 
-pub each_from_map : {X Y : Type 0} (P : Y → Type 0) (f : X → Y) (xs : List X) → All P (map f xs) → All (λ x. P (f x)) xs
+pub each_from_map : {X Y : Type 0} (P : Y → Type 0) (f : X → Y) (xs : List X) → AllByRecursion P (map f xs) → AllByRecursion (λ x. P (f x)) xs
 each_from_map P f [] h = tt
 each_from_map P f (x ∷ xs) h = (h.0, each_from_map P f xs h.1)
 

@@ -1,6 +1,6 @@
 -- A ground normal program: the atoms 1 to n, and a list of rules. Assumes nothing.
 use Rattle.std.specs.Prelude.{◌≡◌, ℕ, ◌+◌, ◌≤◌, Bool, true, not, ◌&&◌, List, [], ◌∷◌, length, nat_le, nat_lt}
-use Rattle.std.specs.List.{AllByRecursion as All}
+use Rattle.std.specs.List.{AllByRecursion}
 use Rattle.rules.specs.Tests.{all, member}
 
 -- head ← positive, not negative. Head 0 is that of a constraint
@@ -44,4 +44,4 @@ pub record LawfulRule (n : ℕ) (r : Rule) : Type 0 where
 pub record Lawful (p : Program) : Type 0 where
   pub atoms_bound : p.atoms ≤ 4096
   pub rules_bound : length p.rules ≤ 16384
-  pub each_lawful : All (LawfulRule p.atoms) p.rules
+  pub each_lawful : AllByRecursion (LawfulRule p.atoms) p.rules

@@ -1,6 +1,6 @@
 -- Stable sets of a ground normal program, after Gelfond and Lifschitz. Assumes nothing.
-use Rattle.std.specs.Prelude.{◌≡◌, ℕ, Bool, true, false, not, ◌&&◌, ◌||◌, List, [], ◌∷◌, map, filter, ◌==◌}
-use Rattle.std.specs.List.{AllByRecursion as All}
+use Rattle.std.specs.Prelude.{◌≡◌, ℕ, Bool, true, false, not, ◌&&◌, ◌||◌, List, [], map, filter, ◌==◌}
+use Rattle.std.specs.List.{AllByRecursion}
 use Rattle.rules.specs.Tests.{all, any}
 use Rattle.rules.specs.Program.{Rule, Program}
 
@@ -37,7 +37,7 @@ reduct set rules = map without_negative (filter (stays set) rules)
 
 -- where a rule's positive atoms are in the set, so is its head
 abbrev pub Closed : List Rule → Atoms → Type 0
-Closed rules set = All (λ r. all set r.positive ≡ true → set r.head ≡ true) rules
+Closed rules set = AllByRecursion (λ r. all set r.positive ≡ true → set r.head ≡ true) rules
 
 -- the smallest set that is closed under the rules
 abbrev pub LeastModel : List Rule → Atoms → Type 0

@@ -1,4 +1,6 @@
 // Rule sources: what judge, and every later call, reads rules from.
+#![tactic(auto)]
+
 ghost use Rattle.std.specs.Prelude.{◌≡◌, length};
 ghost use Rattle.rules.specs.Program.{Program, Lawful};
 ghost use Rattle.rules.specs.Questions.{head_at, positive_at, negative_at};

@@ -52,10 +52,10 @@ module _ {L : Type 0} (width : ℕ) (decode : List ℕ → L) (n : ℕ) (bytes :
         (turn width decode n left.last (drop place bytes) place left.room left.claims left.reads)
 
     pub marks_done : None ≡ claim_at width decode bytes place → marks ≡ wanted_marks
-    marks_done none = ap (with_claims marks) (sym (none_left none)) ∙ left.marks-so
+    marks_done none = ap (with_claims marks) (sym (none_left none)) ∙ left.marks_so
 
     pub entries_done : None ≡ claim_at width decode bytes place → entries ≡ wanted_entries
-    entries_done none = ap (with_levels entries) (sym (none_left none)) ∙ left.entries-so
+    entries_done none = ap (with_levels entries) (sym (none_left none)) ∙ left.entries_so
 
     module _ (step : Step L) (found : Some step ≡ claim_at width decode bytes place) where
       -- the record that the step was read from
@@ -92,8 +92,8 @@ module _ {L : Type 0} (width : ℕ) (decode : List ℕ → L) (n : ℕ) (bytes :
             last = claim.atom;
             claims = others;
             reads = ap (λ t. claims_from width decode room n claim.atom t (place + (4 + size))) (sym (drop-drop (4 + size) place bytes)) ∙ reads;
-            marks_so = ap (with_claims marks) (sym first) ∙ left.marks-so;
-            entries_so = ap (with_levels entries) (sym first) ∙ left.entries-so;
+            marks_so = ap (with_claims marks) (sym first) ∙ left.marks_so;
+            entries_so = ap (with_levels entries) (sym first) ∙ left.entries_so;
           } in
           subst (λ (s : Step L). Left s.next (with_in marks s.claim.atom) wanted_marks (with_entry entries s.claim.atom s.claim.level) wanted_entries) (sym same) there
 

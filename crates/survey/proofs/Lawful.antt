@@ -2,12 +2,11 @@
 use Rattle.std.proofs.Common.{◌≡◌, ℕ, zero, suc, ◌+◌, true, eqb, ltb, List, [], ◌∷◌, drop, Ok, Err, Result, sym, refl, ap, ◌∙◌, subst, ⊎_elim, arith}
 use Rattle.std.proofs.lemmas.Bool.{and_parts, and_from}
 use Rattle.refusal.specs.Results.{err_not_ok, passed}
-use Rattle.refusal.specs.declared.Reason.TheVariants.{LevelKind}
 use Rattle.refusal.specs.declared.Refusal.{Refusal}
 use Rattle.rules.specs.Program.{within, ascends_above, ascending}
 use Rattle.rules.specs.Tests.{all}
 use Rattle.certificate.specs.Claims.{atoms_of, LawfulClaims}
-use Rattle.certificate.specs.Reading.{refusal_at, claim_of, claims_from, stated_kind, by_kind, claims_in}
+use Rattle.certificate.specs.Reading.{claim_of, claims_from, stated_kind, by_kind, claims_in}
 use Rattle.certificate.specs.declared.Claim.{Claim}
 use Rattle.certificate.proofs.Claims.{Ends, Goes, turn}
 use Rattle.certificate.proofs.Standing.{sound_so}

@@ -1,2 +1,4 @@
 // Surveys: a rule source with a mark table and a level table that the caller lends to each call.
+#![tactic(auto)]
+
 pub mod making;

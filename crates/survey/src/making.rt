@@ -17,7 +17,7 @@ pub fn can_make<S: RuleSource, L: Level>(
     marks: &[u8],
     levels: &LevelTable<L>,
 ) -> Result<(), Refusal>
-    ensures value { result ≡ fitting (meaning source.now).atoms (length marks.now) (length levels.now.entries.now) }
+    ensures value { result ≡ fitting (S.meaning source.now).atoms (length marks.now) (length levels.now.entries.now) }
 {
     let n = source.atoms();
     check_length(n, marks.len())?;
@@ -31,7 +31,7 @@ pub fn can_make_from<S: RuleSource, L: StoredLevel>(
     levels: &LevelTable<L>,
     certificate: &[u8],
 ) -> Result<(), Refusal>
-    ensures value { result ≡ makeable (claims_for width decode (meaning source.now).atoms kind (length marks.now) (length levels.now.entries.now) certificate.now) }
+    ensures value { result ≡ makeable (claims_for L.width L.decode (S.meaning source.now).atoms L.kind (length marks.now) (length levels.now.entries.now) certificate.now) }
 {
     can_make(source, marks, levels)?;
     check::<L>(certificate, source.atoms())?;
@@ -57,9 +57,9 @@ pub fn make_from<S: RuleSource, L: StoredLevel>(
     levels: &mut LevelTable<L>,
     certificate: &[u8],
 )
-    ensures marks { marks.new ≡ made_marks (length marks.old) (claims_or_none (claims_for width decode (meaning source.now).atoms kind (length marks.old) (length levels.old.entries.now) certificate.now)) }
-    ensures entries { levels.new.entries.now ≡ made_entries (length levels.old.entries.now) (claims_or_none (claims_for width decode (meaning source.now).atoms kind (length marks.old) (length levels.old.entries.now) certificate.now)) }
-    ensures claimed { MadeFrom (claims_or_none (claims_for width decode (meaning source.now).atoms kind (length marks.old) (length levels.old.entries.now) certificate.now)) marks.new levels.new.entries.now }
+    ensures marks { marks.new ≡ made_marks (length marks.old) (claims_or_none (claims_for L.width L.decode (S.meaning source.now).atoms L.kind (length marks.old) (length levels.old.entries.now) certificate.now)) }
+    ensures entries { levels.new.entries.now ≡ made_entries (length levels.old.entries.now) (claims_or_none (claims_for L.width L.decode (S.meaning source.now).atoms L.kind (length marks.old) (length levels.old.entries.now) certificate.now)) }
+    ensures claimed { MadeFrom (claims_or_none (claims_for L.width L.decode (S.meaning source.now).atoms L.kind (length marks.old) (length levels.old.entries.now) certificate.now)) marks.new levels.new.entries.now }
     ensures named { levels.new.entries.ghost_name ≡ levels.old.entries.ghost_name }
 {
     let answer = can_make_from(source, marks, levels, certificate);
@@ -76,9 +76,9 @@ fn put_claims<L: StoredLevel>(
     levels: &mut LevelTable<L>,
     certificate: &[u8],
 )
-    requires checked { is_ok (claims_in width decode n kind certificate.now) ≡ true }
-    ensures marks { marks.new ≡ with_claims marks.old (claims_or_none (claims_in width decode n kind certificate.now)) }
-    ensures entries { levels.new.entries.now ≡ with_levels levels.old.entries.now (claims_or_none (claims_in width decode n kind certificate.now)) }
+    requires checked { is_ok (claims_in L.width L.decode n L.kind certificate.now) ≡ true }
+    ensures marks { marks.new ≡ with_claims marks.old (claims_or_none (claims_in L.width L.decode n L.kind certificate.now)) }
+    ensures entries { levels.new.entries.now ≡ with_levels levels.old.entries.now (claims_or_none (claims_in L.width L.decode n L.kind certificate.now)) }
     ensures named { levels.new.entries.ghost_name ≡ levels.old.entries.ghost_name }
 {
     let mut place = 8;

@@ -3,13 +3,11 @@ use Rattle.std.proofs.Common.{◌≡◌, ℕ, Bool, eqb, List, length, Some, Non
 use Rattle.std.proofs.lemmas.Bool.{eqb-true}
 use Rattle.refusal.specs.Results.{err_not_ok, passed}
 use Rattle.rules.specs.Program.{Program}
-use Rattle.rules.specs.Stable.{Stable}
 use Rattle.rules.specs.Tests.{lowest}
 use Rattle.levels.specs.Order.{Order}
 use Rattle.levels.specs.declared.table.Entry.{Entry}
 use Rattle.marks.specs.Marks.{marked, lowest_unlawful}
 use Rattle.verdict.specs.Judge.{lowest_broken, unlevelled, ungrounded, by_ground, by_levels, by_rules, verdict, by_bytes, judged, AcceptsOnlyStable}
-use Rattle.verdict.specs.declared.Verdict.{Verdict}
 use Rattle.verdict.specs.declared.Verdict.TheVariants.{Accepted}
 use Rattle.verdict.proofs.Grounded.{accepted_is_stable}
 

@@ -1,11 +1,11 @@
 -- What judge accepts is a stable set. Assumes nothing.
 use Rattle.std.proofs.Common.{◌≡◌, ℕ, zero, suc, ◌+◌, ◌<◌, Bool, true, false, not, ◌&&◌, ◌||◌, eqb, List, length, Some, None, Option, sym, refl, ap, ◌∙◌, ⊎_elim, arith}
-use Rattle.std.specs.List.{AllByRecursion as All}
+use Rattle.std.specs.List.{AllByRecursion}
 use Rattle.std.proofs.ByRecursion.{All-weaker}
 use Rattle.std.proofs.lemmas.Bool.{and_cases, and_from, and_left, and_parts, and_right, both_ways, or_parts, not-false, not_from_false, eqb-true, ne_eqb}
 use Rattle.rules.specs.Program.{Rule, Program}
 use Rattle.rules.specs.Questions.{rule_at}
-use Rattle.rules.specs.Stable.{Atoms, Stable, body, broken, broken_constraint, reduct, stays, supports_with}
+use Rattle.rules.specs.Stable.{Atoms, Stable, body, broken, broken_constraint, stays, supports_with}
 use Rattle.rules.specs.Tests.{all, any, lowest, tally}
 use Rattle.rules.proofs.Parts.{each_rule}
 use Rattle.rules.proofs.Reduct.{Heeds, closed_from_rules, rules_from_closed}
@@ -17,7 +17,7 @@ use Rattle.verdict.proofs.Marked.{marked_above, marked_upto}
 use Rattle.verdict.specs.Judge.{both_below, grounded, is_broken, lower, lowest_broken, ungrounded}
 
 -- no rule is broken, said of each rule
-none_broken : (p : Program) (set : Atoms) → lowest_broken p set ≡ None → All (λ r. broken set r ≡ false) p.rules
+none_broken : (p : Program) (set : Atoms) → lowest_broken p set ≡ None → AllByRecursion (λ r. broken set r ≡ false) p.rules
 none_broken p set e =
     each_rule (λ r. broken set r ≡ false) p
     (λ k r at some within. sym (ap (is_broken set) at) ∙ none_from_lowest (λ k. is_broken set (rule_at p k)) (length p.rules) e k some within)
@@ -76,7 +76,7 @@ module _ {L : Type 0} (below : L → L → Bool) (irrefl : (x : L) → below x x
           (λ e. not-false (grounded below p marks entries a) e)
           (and_cases (marked marks a) (not (grounded below p marks entries a)) (none_from_lowest (ungrounded below p marks entries) p.atoms ground a (marked_above marks a into) (omega (arith, marked_upto marks a into))))
 
-      module _ (other : Atoms) (closed : All (λ r. stays (marked marks) r ≡ true → Heeds other r) p.rules) where
+      module _ (other : Atoms) (closed : AllByRecursion (λ r. stays (marked marks) r ≡ true → Heeds other r) p.rules) where
         -- a rule that supports a by lower atoms, where those are in the other set
         supported : (a : ℕ) → ((b : ℕ) → marked marks b ≡ true → lower below entries a b ≡ true → other b ≡ true) → (r : Rule) → (stays (marked marks) r ≡ true → Heeds other r) → supports_with (lower below entries a) (marked marks) a r ≡ true → other a ≡ true
         supported a lower_in r heeds supports =

@@ -1,4 +1,6 @@
 // Judge: is the marked set a stable set, by the levels that are claimed for it?
+#![tactic(auto)]
+
 ghost use Rattle.std.specs.Prelude.{◌≡◌, not, length};
 ghost use Rattle.rules.specs.Questions.{rule_at, positive_part, negative_part};
 ghost use Rattle.rules.specs.Tests.{all, any, lowest};
@@ -51,8 +53,8 @@ pub fn judge<S: RuleSource, L: Level>(
     marks: &[u8],
     levels: &LevelTable<L>,
 ) -> Result<Verdict, Refusal>
-    ensures value { result ≡ judged below (meaning source.now) marks.now levels.now.entries.now }
-    ensures accepted_is_stable { AcceptsOnlyStable (meaning source.now) marks.now result }
+    ensures value { result ≡ judged L.below (S.meaning source.now) marks.now levels.now.entries.now }
+    ensures accepted_is_stable { AcceptsOnlyStable (S.meaning source.now) marks.now result }
 {
     let atoms = source.atoms();
     check_tables(atoms, marks, levels.len())?;
@@ -86,7 +88,7 @@ fn check_tables(atoms: u16, marks: &[u8], entries: usize) -> Result<(), Refusal>
 
 // The lowest broken rule.
 fn lowest_broken<S: RuleSource>(source: &S, marks: &[u8]) -> Option<u16>
-    ensures value { result ≡ lowest_broken (meaning source.now) (marked marks.now) }
+    ensures value { result ≡ lowest_broken (S.meaning source.now) (marked marks.now) }
 {
     for rule in 1..=source.rules() {
         if is_broken(source, marks, rule) {
@@ -97,7 +99,7 @@ fn lowest_broken<S: RuleSource>(source: &S, marks: &[u8]) -> Option<u16>
 }
 
 fn is_broken<S: RuleSource>(source: &S, marks: &[u8], rule: u16) -> bool
-    ensures value { result ≡ is_broken (marked marks.now) (rule_at (meaning source.now) rule) }
+    ensures value { result ≡ is_broken (marked marks.now) (rule_at (S.meaning source.now) rule) }
 {
     let Some(head) = source.head(rule) else {
         return false;
@@ -107,13 +109,13 @@ fn is_broken<S: RuleSource>(source: &S, marks: &[u8], rule: u16) -> bool
 
 // Is the body of the rule true?
 fn body_holds<S: RuleSource>(source: &S, marks: &[u8], rule: u16) -> bool
-    ensures value { result ≡ body_at (meaning source.now) (marked marks.now) rule }
+    ensures value { result ≡ body_at (S.meaning source.now) (marked marks.now) rule }
 {
     all_positive_marked(source, marks, rule) && !any_negative_marked(source, marks, rule)
 }
 
 fn all_positive_marked<S: RuleSource>(source: &S, marks: &[u8], rule: u16) -> bool
-    ensures value { result ≡ all (marked marks.now) (positive_part (meaning source.now) rule) }
+    ensures value { result ≡ all (marked marks.now) (positive_part (S.meaning source.now) rule) }
 {
     let mut i = 0;
     while let Some(atom) = source.positive(rule, i) {
@@ -126,7 +128,7 @@ fn all_positive_marked<S: RuleSource>(source: &S, marks: &[u8], rule: u16) -> bo
 }
 
 fn any_negative_marked<S: RuleSource>(source: &S, marks: &[u8], rule: u16) -> bool
-    ensures value { result ≡ any (marked marks.now) (negative_part (meaning source.now) rule) }
+    ensures value { result ≡ any (marked marks.now) (negative_part (S.meaning source.now) rule) }
 {
     let mut i = 0;
     while let Some(atom) = source.negative(rule, i) {
@@ -140,7 +142,7 @@ fn any_negative_marked<S: RuleSource>(source: &S, marks: &[u8], rule: u16) -> bo
 
 // The lowest marked atom without a level.
 fn lowest_unlevelled<L: Level>(atoms: u16, marks: &[u8], levels: &LevelTable<L>) -> Option<u16>
-    ensures value { result ≡ lowest (unlevelled below marks.now levels.now.entries.now) atoms }
+    ensures value { result ≡ lowest (unlevelled L.below marks.now levels.now.entries.now) atoms }
 {
     for atom in 1..=atoms {
         if is_marked(marks, atom) && levels.level(atom).is_none() {
@@ -156,7 +158,7 @@ fn lowest_ungrounded<S: RuleSource, L: Level>(
     marks: &[u8],
     levels: &LevelTable<L>,
 ) -> Option<u16>
-    ensures value { result ≡ lowest (ungrounded below (meaning source.now) marks.now levels.now.entries.now) (meaning source.now).atoms }
+    ensures value { result ≡ lowest (ungrounded L.below (S.meaning source.now) marks.now levels.now.entries.now) (S.meaning source.now).atoms }
 {
     'atoms: for atom in 1..=source.atoms() {
         if !is_marked(marks, atom) {
@@ -183,7 +185,7 @@ fn lowest_ungrounded<S: RuleSource, L: Level>(
 
 // Does the rule support the atom?
 fn supports<S: RuleSource>(source: &S, marks: &[u8], atom: u16, rule: u16) -> bool
-    ensures value { result ≡ supports_at (meaning source.now) (marked marks.now) atom rule }
+    ensures value { result ≡ supports_at (S.meaning source.now) (marked marks.now) atom rule }
 {
     let Some(head) = source.head(rule) else {
         return false;
@@ -193,7 +195,7 @@ fn supports<S: RuleSource>(source: &S, marks: &[u8], atom: u16, rule: u16) -> bo
 
 // Are both levels there, and the first below the second?
 fn both_below<L: Level>(first: Option<L>, second: Option<L>) -> bool
-    ensures value { result ≡ both_below below first second }
+    ensures value { result ≡ both_below L.below first second }
 {
     let (Some(low), Some(high)) = (first, second) else {
         return false;

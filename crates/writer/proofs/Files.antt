@@ -1,13 +1,13 @@
 -- The file of a program, record by record. Assumes nothing.
 use Rattle.std.proofs.Common.{◌≡◌, ℕ, zero, suc, ◌+◌, ◌-◌, ◌*◌, ◌<◌, ◌≤◌, List, [], ◌∷◌, ◌++◌, length, get_or, take, unwrap_or, sym, ap, ◌∙◌, arith}
-use Rattle.std.specs.List.{flat_map, AllByRecursion as All}
+use Rattle.std.specs.List.{flat_map, AllByRecursion}
 use Rattle.std.proofs.lemmas.List.{append_assoc, length-append, take_more, take_all, flat_map_more}
 use Rattle.records.specs.Words.{word_bytes}
 use Rattle.records.proofs.Encoded.{length_record}
 use Rattle.rules.specs.Program.{Rule, Program, LawfulRule, Lawful}
 use Rattle.program.specs.Encoding.{head_bytes, rule_bytes, end_bytes, encoding}
 use Rattle.program.proofs.Encoded.{rule_words, contents_size_is}
-use Rattle.rules.proofs.Parts.{no_rule, rule_at_getD}
+use Rattle.rules.proofs.Parts.{no_rule, rule_at-get_or}
 use Rattle.writer.specs.Parts.{rule_or_empty}
 use Rattle.writer.specs.Writing.{laid_over, before_end}
 use Rattle.writer.proofs.Bytes.{laid_length, laid_again}
@@ -18,7 +18,7 @@ shorter f (suc n) [] = omega arith
 shorter f (suc n) (x ∷ xs) = omega (arith, shorter f n xs, length-append (f x) (flat_map f (take n xs)), length-append (f x) (flat_map f xs))
 
 -- no record of a lawful rule has more than 518 bytes
-few_bytes : (n : ℕ) (rs : List Rule) → All (LawfulRule n) rs → length (flat_map rule_bytes rs) ≤ 518 * length rs
+few_bytes : (n : ℕ) (rs : List Rule) → AllByRecursion (LawfulRule n) rs → length (flat_map rule_bytes rs) ≤ 518 * length rs
 few_bytes n [] lawful = omega arith
 few_bytes n (r ∷ rs) lawful = omega (arith, few_bytes n rs lawful.1, length-append (rule_bytes r) (flat_map rule_bytes rs), length_record 2 (word_bytes (rule_words r)), contents_size_is r, lawful.0.few_atoms)
 
@@ -31,7 +31,7 @@ module _ (p : Program) where
   front_more k some inside =
       let r = get_or p.rules (k - 1) no_rule in
       let next : k - 1 + 1 ≡ k + 1 - 1 = omega arith in
-      let last : rule_or_empty p k ≡ r = ap (λ o. unwrap_or o (record { head = 0; positive = []; negative = [] })) (rule_at_getD p k some inside) in
+      let last : rule_or_empty p k ≡ r = ap (λ o. unwrap_or o (record { head = 0; positive = []; negative = [] })) (rule_at-get_or p k some inside) in
       ap (λ x. front k ++ rule_bytes x) last
       ∙ flat_map_more rule_bytes (head_bytes p) (take (k - 1) p.rules) r
       ∙ ap (λ rs. head_bytes p ++ flat_map rule_bytes rs) (sym (take_more p.rules (k - 1) no_rule (omega arith)))

@@ -5,7 +5,6 @@ use Rattle.std.proofs.lemmas.Bool.{leb-true, le-leb, lt-leb, cond-true, cond-fal
 use Rattle.refusal.specs.declared.Reason.TheVariants.{Limit, Output}
 use Rattle.refusal.specs.declared.Refusal.{Refusal}
 use Rattle.refusal.specs.Results.{err_not_ok, passed}
-use Rattle.records.specs.Words.{Bytes}
 use Rattle.rules.specs.Program.{Program, Lawful}
 use Rattle.program.specs.Encoding.{encoding, Storable}
 use Rattle.program.specs.Reading.{program_in}

@@ -1,4 +1,6 @@
 // The writer: any rule source out as a program file.
+#![tactic(auto)]
+
 ghost use Rattle.std.specs.Prelude.{◌≡◌, ◌≤◌, length, IfOk};
 ghost use Rattle.program.specs.Encoding.{encoding};
 ghost use Rattle.writer.specs.RoundTrip.{ReadsBack, SameBytes};
@@ -16,11 +18,11 @@ mod record;
 
 // Writes the program file of a source to the front of the output, and tells its length. Refused, it writes nothing.
 pub fn write<S: RuleSource>(source: &S, out: &mut [u8]) -> Result<usize, Refusal>
-    ensures value { result ≡ write_answer (meaning source.now) (length out.old) }
-    ensures after { out.new ≡ output_after (meaning source.now) out.old }
+    ensures value { result ≡ write_answer (S.meaning source.now) (length out.old) }
+    ensures after { out.new ≡ output_after (S.meaning source.now) out.old }
     ensures fits { IfOk result (λ size. size ≤ length out.old) }
-    ensures reads_back { ReadsBack (meaning source.now) result out.new }
-    ensures same_bytes { SameBytes (meaning source.now) result out.new }
+    ensures reads_back { ReadsBack (S.meaning source.now) result out.new }
+    ensures same_bytes { SameBytes (S.meaning source.now) result out.new }
 {
     let size = check_size(source)?;
     if size > out.len() {
@@ -42,7 +44,7 @@ fn refuse(reason: Reason, place: usize) -> Refusal
 
 // Refuses a source over the limits of a file: that of rules, then that of bytes.
 fn check_size<S: RuleSource>(source: &S) -> Result<usize, Refusal>
-    ensures value { result ≡ size_checked (meaning source.now) }
+    ensures value { result ≡ size_checked (S.meaning source.now) }
 {
     if source.rules() > MAX_RULES {
         return Err(refuse(Reason::Limit, usize::from(MAX_RULES)));
@@ -56,7 +58,7 @@ fn check_size<S: RuleSource>(source: &S) -> Result<usize, Refusal>
 
 // How many bytes the file has: 12 in its head and its end, and those of the rules.
 fn file_size<S: RuleSource>(source: &S) -> usize
-    ensures value { result ≡ length (encoding (meaning source.now)) }
+    ensures value { result ≡ length (encoding (S.meaning source.now)) }
 {
     let mut size = 12;
     for rule in 1..=source.rules() {
@@ -67,8 +69,8 @@ fn file_size<S: RuleSource>(source: &S) -> usize
 
 // Writes the records one after the other.
 fn write_file<S: RuleSource>(source: &S, out: &mut [u8])
-    requires room { length (encoding (meaning source.now)) ≤ length out.old }
-    ensures after { out.new ≡ laid_over (encoding (meaning source.now)) out.old }
+    requires room { length (encoding (S.meaning source.now)) ≤ length out.old }
+    ensures after { out.new ≡ laid_over (encoding (S.meaning source.now)) out.old }
 {
     let at = write_rules(source, out);
     write_end(&mut out[at..]);
@@ -76,9 +78,9 @@ fn write_file<S: RuleSource>(source: &S, out: &mut [u8])
 
 // Writes the head and the rules, each record where the one before it ends, and tells where the last ends.
 fn write_rules<S: RuleSource>(source: &S, out: &mut [u8]) -> usize
-    requires room { length (encoding (meaning source.now)) ≤ length out.old }
-    ensures value { result ≡ length (before_end (meaning source.now)) }
-    ensures after { out.new ≡ laid_over (before_end (meaning source.now)) out.old }
+    requires room { length (encoding (S.meaning source.now)) ≤ length out.old }
+    ensures value { result ≡ length (before_end (S.meaning source.now)) }
+    ensures after { out.new ≡ laid_over (before_end (S.meaning source.now)) out.old }
 {
     let mut at = write_head(source, out);
     for rule in 1..=source.rules() {

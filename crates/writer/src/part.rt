@@ -16,7 +16,7 @@ pub(crate) enum Part {
 
 // The atom at a position of a part.
 fn atom_at<S: RuleSource>(source: &S, rule: u16, part: Part, position: u16) -> Option<u16>
-    ensures value { result ≡ slice_get (atoms_in (meaning source.now) rule part) position }
+    ensures value { result ≡ slice_get (atoms_in (S.meaning source.now) rule part) position }
 {
     match part {
         Part::Positive => source.positive(rule, position),
@@ -26,7 +26,7 @@ fn atom_at<S: RuleSource>(source: &S, rule: u16, part: Part, position: u16) -> O
 
 // How many atoms a part has.
 pub(crate) fn count_atoms<S: RuleSource>(source: &S, rule: u16, part: Part) -> u16
-    ensures value { result ≡ length (atoms_in (meaning source.now) rule part) }
+    ensures value { result ≡ length (atoms_in (S.meaning source.now) rule part) }
 {
     let mut count = 0;
     while atom_at(source, rule, part, count).is_some() {
@@ -37,8 +37,8 @@ pub(crate) fn count_atoms<S: RuleSource>(source: &S, rule: u16, part: Part) -> u
 
 // Puts the atoms of a part after what the block has.
 pub(crate) fn push_atoms<S: RuleSource>(source: &S, rule: u16, part: Part, block: &mut Block)
-    requires room { length (gathered block.old) + 2 * length (atoms_in (meaning source.now) rule part) ≤ 518 }
-    ensures after { gathered block.new ≡ gathered block.old ++ word_bytes (atoms_in (meaning source.now) rule part) }
+    requires room { length (gathered block.old) + 2 * length (atoms_in (S.meaning source.now) rule part) ≤ 518 }
+    ensures after { gathered block.new ≡ gathered block.old ++ word_bytes (atoms_in (S.meaning source.now) rule part) }
 {
     let mut position = 0;
     while let Some(atom) = atom_at(source, rule, part, position) {

@@ -11,7 +11,7 @@ use rules::RuleSource;
 
 // How many bytes the record of a rule has.
 pub(crate) fn rule_size<S: RuleSource>(source: &S, rule: u16) -> usize
-    ensures value { result ≡ length (rule_bytes (rule_or_empty (meaning source.now) rule)) }
+    ensures value { result ≡ length (rule_bytes (rule_or_empty (S.meaning source.now) rule)) }
 {
     let positive = count_atoms(source, rule, Part::Positive);
     let negative = count_atoms(source, rule, Part::Negative);
@@ -22,7 +22,7 @@ pub(crate) fn rule_size<S: RuleSource>(source: &S, rule: u16) -> usize
 pub(crate) fn write_head<S: RuleSource>(source: &S, out: &mut [u8]) -> usize
     requires room { 8 ≤ length out.old }
     ensures value { result ≡ 8 }
-    ensures after { out.new ≡ laid_over (head_bytes (meaning source.now)) out.old }
+    ensures after { out.new ≡ laid_over (head_bytes (S.meaning source.now)) out.old }
 {
     let mut block = Block::new();
     block.push(4);
@@ -34,9 +34,9 @@ pub(crate) fn write_head<S: RuleSource>(source: &S, out: &mut [u8]) -> usize
 
 // Writes the record of a rule, and tells its length.
 pub(crate) fn write_rule<S: RuleSource>(source: &S, rule: u16, out: &mut [u8]) -> usize
-    requires room { length (rule_bytes (rule_or_empty (meaning source.now) rule)) ≤ length out.old }
-    ensures value { result ≡ length (rule_bytes (rule_or_empty (meaning source.now) rule)) }
-    ensures after { out.new ≡ laid_over (rule_bytes (rule_or_empty (meaning source.now) rule)) out.old }
+    requires room { length (rule_bytes (rule_or_empty (S.meaning source.now) rule)) ≤ length out.old }
+    ensures value { result ≡ length (rule_bytes (rule_or_empty (S.meaning source.now) rule)) }
+    ensures after { out.new ≡ laid_over (rule_bytes (rule_or_empty (S.meaning source.now) rule)) out.old }
 {
     let block = gather_rule(source, rule);
     block.copy_to(out)
@@ -44,7 +44,7 @@ pub(crate) fn write_rule<S: RuleSource>(source: &S, rule: u16, out: &mut [u8]) -
 
 // The record of a rule: its length, its kind, the head, how many positive atoms there are, and the atoms.
 fn gather_rule<S: RuleSource>(source: &S, rule: u16) -> Block
-    ensures value { gathered result ≡ rule_bytes (rule_or_empty (meaning source.now) rule) }
+    ensures value { gathered result ≡ rule_bytes (rule_or_empty (S.meaning source.now) rule) }
 {
     let positive = count_atoms(source, rule, Part::Positive);
     let negative = count_atoms(source, rule, Part::Negative);

@@ -10,4 +10,4 @@ returns-then-place-bytes c =
     record { value = sym (ap first_word (drop_all c.args.place c.args.bytes.now past)) }
 
 pub returns : goal.returns
-returns c = record { value = c.read-first-word.ensures.value ∙ ap first_word (take_rest c.args.bytes.now c.args.place) }
+returns c = record { value = c.read_first_word.ensures.value ∙ ap first_word (take_rest c.args.bytes.now c.args.place) }

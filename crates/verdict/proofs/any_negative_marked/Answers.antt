@@ -7,22 +7,22 @@ use Rattle.marks.specs.Marks.{marked}
 use Rattle.verdict.proofs.any_negative_marked.Given as given
 use Rattle.verdict.proofs.any_negative_marked.Goals as goal
 
-pub returns-then-is-marked : goal.returns-then-is-marked
-returns-then-is-marked g c =
+pub returns-then-is_marked : goal.returns-then-is_marked
+returns-then-is_marked g c =
     let p = g.S.RuleSource.meaning c.args.source.now in
     let found = negative_read p c.args.rule c.loop-atom.i (Some c.in-Some.atom) c.in-Some.ensures.value in
-    record { value = sym (any_passes (marked c.args.marks.now) (negative_part p c.args.rule) c.loop-atom.i c.in-Some.atom found (sym c.if-is-marked.ensures.value)) ∙ c.loop-atom.invariant }
+    record { value = sym (any_passes (marked c.args.marks.now) (negative_part p c.args.rule) c.loop-atom.i c.in-Some.atom found (sym c.if-is_marked.ensures.value)) ∙ c.loop-atom.invariant }
 
 -- the position lies in the part
-within : (g : given.Over) (c : goal.Else-is-marked g) → c.loop-atom.i < length (negative_part (g.S.RuleSource.meaning c.args.source.now) c.args.rule)
+within : (g : given.Over) (c : goal.Else-is_marked g) → c.loop-atom.i < length (negative_part (g.S.RuleSource.meaning c.args.source.now) c.args.rule)
 within g c =
     let p = g.S.RuleSource.meaning c.args.source.now in
     let found = negative_read p c.args.rule c.loop-atom.i (Some c.in-Some.atom) c.in-Some.ensures.value in
     within_from_nth (negative_part p c.args.rule) c.loop-atom.i c.in-Some.atom found
 
 -- a part has few atoms
-pub overflow-add-i : goal.overflow-add-i
-overflow-add-i g c =
+pub overflow_add-i : goal.overflow_add-i
+overflow_add-i g c =
     let few = few_in_parts (g.S.RuleSource.meaning c.args.source.now) (g.S.RuleSource.lawful c.args.source.now) c.args.rule in
     omega (arith, within g c)
 
@@ -33,10 +33,10 @@ pub loop-atom-preserved : goal.loop-atom-preserved
 loop-atom-preserved g c =
     let p = g.S.RuleSource.meaning c.args.source.now in
     let found = negative_read p c.args.rule c.loop-atom.i (Some c.in-Some.atom) c.in-Some.ensures.value in
-    sym (any_more (marked c.args.marks.now) (negative_part p c.args.rule) c.loop-atom.i c.in-Some.atom found (sym c.if-is-marked.ensures.value)) ∙ c.loop-atom.invariant
+    sym (any_more (marked c.args.marks.now) (negative_part p c.args.rule) c.loop-atom.i c.in-Some.atom found (sym c.if-is_marked.ensures.value)) ∙ c.loop-atom.invariant
 
 pub returns : goal.returns
 returns g c =
     let p = g.S.RuleSource.meaning c.args.source.now in
-    let past = negative_read p c.args.rule c.loop-atom.i None c.in-default.ensures.value in
+    let past = negative_read p c.args.rule c.loop-atom.i None c.in_default.ensures.value in
     record { value = sym (any_ends (marked c.args.marks.now) (negative_part p c.args.rule) c.loop-atom.i past) ∙ c.loop-atom.invariant }

@@ -1,7 +1,8 @@
 -- What judge answers is what is defined, and by that definition only a stable set is accepted.
-use Rattle.std.proofs.Common.{◌≡◌, Ok, sym, ◌∙◌, rules}
+use Rattle.std.proofs.Common.{◌≡◌, Result, sym, subst, rules}
+use Rattle.refusal.specs.declared.Refusal.{Refusal}
 use Rattle.verdict.specs.Judge.{judged}
-use Rattle.verdict.specs.declared.Verdict.TheVariants.{Accepted}
+use Rattle.verdict.specs.declared.Verdict.{Verdict}
 use Rattle.verdict.proofs.Accepted.{judged_is_stable}
 use Rattle.verdict.proofs.judge.Goals as goal
 
@@ -11,8 +12,8 @@ returns g c =
     let p = g.S.RuleSource.meaning c.args.source.now in
     let marks = c.args.marks.now in
     let entries = c.args.levels.now.entries.now in
-    let is : Ok (Accepted c.count-marked.result) ≡ judged level.below p marks entries = search rules in
     record {
-      value = is;
-      accepted_is_stable = λ m e. judged_is_stable level.below level.count level.rung level.laws p marks entries m (sym is ∙ e);
+      value = search rules;
+      accepted_is_stable = λ m e. judged_is_stable level.below level.count level.rung level.laws p marks entries m
+          (subst (λ (v : Result Verdict Refusal). judged level.below p marks entries ≡ v) e (sym (search rules)));
     }

@@ -13,9 +13,9 @@ returns g c =
     let p = g.S.RuleSource.meaning self.below in
     let inputs = held self.inputs in
     let a = c.args.atom in
-    let atom : within p.atoms a ≡ true = sym (c.if-not-is-within.ensures.value ∙ ap (λ n. within n a) c.atoms.ensures.value) in
-    let apart : member a inputs ≡ false = sym (c.if-holds.ensures.value ∙ ap (member a) c.as-slice.ensures.value) in
-    let room : room_checked p inputs ≡ Ok tt = sym c.in-ok-check-room.ensures.value in
+    let atom : within p.atoms a ≡ true = sym (c.if-not-is_within.ensures.value ∙ ap (λ n. within n a) c.atoms.ensures.value) in
+    let apart : member a inputs ≡ false = sym (c.if-holds.ensures.value ∙ ap (member a) c.as_slice.ensures.value) in
+    let room : room_checked p inputs ≡ Ok tt = sym c.in_ok-check_room.ensures.value in
     record {
       value = sym (put_accepted p inputs a atom apart room);
       below = refl;

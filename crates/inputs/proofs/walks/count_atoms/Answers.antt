@@ -4,17 +4,17 @@ use Rattle.std.proofs.lemmas.List.Filters.{length-filter_more}
 use Rattle.std.proofs.lemmas.List.{take_all}
 use Rattle.rules.specs.Program.{within}
 use Rattle.inputs.proofs.walks.count_atoms.Goals as goal
-use Rattle.inputs.proofs.walks.count_atoms.Goals.{then-is-within, else-is-within}
+use Rattle.inputs.proofs.walks.count_atoms.Goals.{then-is_within, else-is_within}
 
 pub loop-input-preserved : goal.loop-input-preserved
 loop-input-preserved c =
     let step = length-filter_more (within c.args.n) c.args.inputs.now c.loop-input.input-index 0 c.loop-input-test.true in
-    elim c.if-is-within.branch [
-      | then-is-within w ↦
-          let one = ap {A = Bool} {B = ℕ} (λ b. cond b 1 0) w.if-is-within.ensures.value in
+    elim c.if-is_within.branch [
+      | then-is_within w ↦
+          let one = ap {A = Bool} {B = ℕ} (λ b. cond b 1 0) w.if-is_within.ensures.value in
           (omega (arith, w.count-is), omega (arith, w.count-is, step, one))
-      | else-is-within w ↦
-          let none = ap {A = Bool} {B = ℕ} (λ b. cond b 1 0) w.if-is-within.ensures.value in
+      | else-is_within w ↦
+          let none = ap {A = Bool} {B = ℕ} (λ b. cond b 1 0) w.if-is_within.ensures.value in
           (omega (arith, w.count-is), omega (arith, w.count-is, step, none))
     ]
 

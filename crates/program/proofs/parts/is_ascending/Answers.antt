@@ -8,4 +8,4 @@ use Rattle.program.proofs.parts.is_ascending.Goals as goal
 pub returns : goal.returns
 returns c =
     let part = c.args.part.now in
-    record { value = c.ascends-above.ensures.value ∙ (ap (λ a. ascends_above a (words (tail_of part))) c.word.ensures.value ∙ ap ascending (sym (words_more part (search rules)))) }
+    record { value = c.ascends_above.ensures.value ∙ (ap (λ a. ascends_above a (words (tail_of part))) c.word.ensures.value ∙ ap ascending (sym (words_more part (search rules)))) }

@@ -4,8 +4,8 @@ use Rattle.program.proofs.Walks.{here}
 use Rattle.program.proofs.Disjoint.{apart_no_right, apart_same, apart_less, apart_more}
 use Rattle.program.proofs.reader.are_disjoint.Goals as goal
 
-pub returns-in-default-other : goal.returns-in-default-other
-returns-in-default-other c = record { value = apart_no_right c.loop-one.one.now c.loop-one.other.now _ c.loop-one.invariant (search rules) }
+pub returns-in_default-other : goal.returns-in_default-other
+returns-in_default-other c = record { value = apart_no_right c.loop-one.one.now c.loop-one.other.now _ c.loop-one.invariant (search rules) }
 
 pub returns-then-first-second : goal.returns-then-first-second
 returns-then-first-second c =

@@ -4,17 +4,17 @@ use Rattle.records.proofs.Encoded.{bytes_from_fits}
 use Rattle.program.proofs.Relation.{reads_exactly}
 use Rattle.program.proofs.reader.check.Goals as goal
 
-pub returns-then-bytes-gt-MAX-BYTES : goal.returns-then-bytes-gt-MAX-BYTES
-returns-then-bytes-gt-MAX-BYTES c =
+pub returns-then-bytes-gt-MAX_BYTES : goal.returns-then-bytes-gt-MAX_BYTES
+returns-then-bytes-gt-MAX_BYTES c =
     let bytes = c.args.bytes.now in
-    record { value = search rules; exact = reads_exactly bytes (bytes_from_fits bytes c.type-inv.bytes) }
+    record { value = search rules; exact = reads_exactly bytes (bytes_from_fits bytes c.type_inv.bytes) }
 
-pub returns-in-err-head : goal.returns-in-err-head
-returns-in-err-head c =
+pub returns-in_err-head : goal.returns-in_err-head
+returns-in_err-head c =
     let bytes = c.args.bytes.now in
-    record { value = search rules; exact = reads_exactly bytes (bytes_from_fits bytes c.type-inv.bytes) }
+    record { value = search rules; exact = reads_exactly bytes (bytes_from_fits bytes c.type_inv.bytes) }
 
 pub returns : goal.returns
 returns c =
     let bytes = c.args.bytes.now in
-    record { value = search rules; exact = reads_exactly bytes (bytes_from_fits bytes c.type-inv.bytes) }
+    record { value = search rules; exact = reads_exactly bytes (bytes_from_fits bytes c.type_inv.bytes) }

@@ -7,47 +7,47 @@ use Rattle.program.specs.declared.reader.Opened.TheVariants.{RuleRecord}
 use Rattle.program.proofs.Rules.{turn_refused, turn_end_refused, turn_end, turn_full, turn_fault, turn_rule}
 use Rattle.program.proofs.reader.read_rules.Goals as goal
 
-pub returns-in-err-open-record : goal.returns-in-err-open-record
-returns-in-err-open-record c =
-    let p = err_from_is_err_and c.from-residual.result c.from-residual.ensures.1 in
+pub returns-in_err-open_record : goal.returns-in_err-open_record
+returns-in_err-open_record c =
+    let p = err_from_is_err_and c.from_residual.result c.from_residual.ensures.1 in
     record {
       value = p.1 ∙ ap Err p.2
           ∙ turn_refused c.args.bytes.now c.args.head.atoms c.args.head.rules c.records.starts c.records.count c.records.place _ c.records.invariant.4
-          c.in-err-open-record.field-0.0 c.in-err-open-record.ensures.value;
+          c.in_err-open_record.field-0.0 c.in_err-open_record.ensures.value;
     }
 
-pub returns-in-err-check-end : goal.returns-in-err-check-end
-returns-in-err-check-end c =
-    let p = err_from_is_err_and c.from-residual-in-err-check-end.result c.from-residual-in-err-check-end.ensures.1 in
+pub returns-in_err-check_end-in-End : goal.returns-in_err-check_end-in-End
+returns-in_err-check_end-in-End c =
+    let p = err_from_is_err_and c.from_residual-in_err-check_end-in-End.result c.from_residual-in_err-check_end-in-End.ensures.1 in
     record {
       value = p.1 ∙ ap Err p.2
           ∙ turn_end_refused c.args.bytes.now c.args.head.atoms c.args.head.rules c.records.starts c.records.count c.records.place _ c.records.invariant.4
-          c.in-err-check-end.field-0.0 (ap Ok (sym c.in-End.is) ∙ c.in-ok-open-record.ensures.value) c.in-err-check-end.ensures.value;
+          c.in_err-check_end-in-End.field-0.0 (ap Ok (sym c.in-End.is) ∙ c.in_ok-open_record.ensures.value) c.in_err-check_end-in-End.ensures.value;
     }
 
 pub returns-in-End : goal.returns-in-End
 returns-in-End c =
     record {
       value = turn_end c.args.bytes.now c.args.head.atoms c.args.head.rules c.records.starts c.records.count c.records.place _ c.records.invariant.4
-          c.in-ok-check-end.field-0 (ap Ok (sym c.in-End.is) ∙ c.in-ok-open-record.ensures.value) c.in-ok-check-end.ensures.value;
+          c.in_ok-check_end-in-End.field-0 (ap Ok (sym c.in-End.is) ∙ c.in_ok-open_record.ensures.value) c.in_ok-check_end-in-End.ensures.value;
     }
 
-pub returns-then-count-ge-MAX-RULES : goal.returns-then-count-ge-MAX-RULES
-returns-then-count-ge-MAX-RULES c =
+pub returns-then-count-ge-MAX_RULES : goal.returns-then-count-ge-MAX_RULES
+returns-then-count-ge-MAX_RULES c =
     record {
       value = ap Err c.refuse.ensures.value
           ∙ turn_full c.args.bytes.now c.args.head.atoms c.args.head.rules c.records.starts c.records.count c.records.place _ c.records.invariant.4
-          c.in-RuleRecord.size c.in-RuleRecord.positive (ap Ok (sym c.in-RuleRecord.is) ∙ c.in-ok-open-record.ensures.value) c.if-count-ge-MAX-RULES.true;
+          c.in-RuleRecord.size c.in-RuleRecord.positive (ap Ok (sym c.in-RuleRecord.is) ∙ c.in_ok-open_record.ensures.value) c.if-count-ge-MAX_RULES.true;
     }
 
-pub returns-in-err-check-atoms : goal.returns-in-err-check-atoms
-returns-in-err-check-atoms c =
-    let p = err_from_is_err_and c.from-residual-in-err-check-atoms.result c.from-residual-in-err-check-atoms.ensures.1 in
+pub returns-in_err-check_atoms : goal.returns-in_err-check_atoms
+returns-in_err-check_atoms c =
+    let p = err_from_is_err_and c.from_residual-in_err-check_atoms.result c.from_residual-in_err-check_atoms.ensures.1 in
     record {
       value = p.1 ∙ ap Err p.2
           ∙ turn_fault c.args.bytes.now c.args.head.atoms c.args.head.rules c.records.starts c.records.count c.records.place _ c.records.invariant.4
-          c.in-RuleRecord.size c.in-RuleRecord.positive (ap Ok (sym c.in-RuleRecord.is) ∙ c.in-ok-open-record.ensures.value) c.if-count-ge-MAX-RULES.false
-          c.in-err-check-atoms.field-0.0 c.in-err-check-atoms.ensures.value;
+          c.in-RuleRecord.size c.in-RuleRecord.positive (ap Ok (sym c.in-RuleRecord.is) ∙ c.in_ok-open_record.ensures.value) c.if-count-ge-MAX_RULES.false
+          c.in_err-check_atoms.field-0.0 c.in_err-check_atoms.ensures.value;
     }
 
 pub records-preserved : goal.records-preserved
@@ -55,12 +55,12 @@ records-preserved c =
     let bytes = c.args.bytes.now in
     let size = c.in-RuleRecord.size in
     let k = c.in-RuleRecord.positive in
-    let is = ap Ok (sym c.in-RuleRecord.is) ∙ c.in-ok-open-record.ensures.value in
+    let is = ap Ok (sym c.in-RuleRecord.is) ∙ c.in_ok-open_record.ensures.value in
     let fits : Fitting (take (length bytes - c.records.place) (drop c.records.place bytes)) (Ok (RuleRecord size k)) =
-    subst (λ o. Fitting (take (length bytes - c.records.place) (drop c.records.place bytes)) (Ok o)) c.in-RuleRecord.is c.in-ok-open-record.ensures.fitting in
+    subst (λ o. Fitting (take (length bytes - c.records.place) (drop c.records.place bytes)) (Ok o)) c.in-RuleRecord.is c.in_ok-open_record.ensures.fitting in
     let whole : 4 + size ≤ length bytes - c.records.place = omega (arith, simp (length-take, length-drop) at fits.0) in
     let next = turn_rule bytes c.args.head.atoms c.args.head.rules c.records.starts c.records.count c.records.place _ c.records.invariant.4
-    size k is c.if-count-ge-MAX-RULES.false c.in-ok-check-atoms.field-0 c.in-ok-check-atoms.ensures.value in (
+    size k is c.if-count-ge-MAX_RULES.false c.in_ok-check_atoms.field-0 c.in_ok-check_atoms.ensures.value in (
       omega arith,
       omega (arith, c.from-in-records.ensures),
       omega arith,

@@ -6,21 +6,21 @@ use Rattle.survey.proofs.Allowed.{made_with, made_without}
 use Rattle.survey.proofs.Made.{made_as, made_for}
 use Rattle.survey.proofs.making.make_from.Goals as goal
 
-pub returns-then-is-ok : goal.returns-then-is-ok
-returns-then-is-ok g c =
+pub returns-then-is_ok : goal.returns-then-is_ok
+returns-then-is_ok g c =
     let level = g.L.StoredLevel in
     let n = (g.S.RuleSource.meaning c.args.source.now).atoms in
     let certificate = c.args.certificate.now in
     let marks = length c.args.marks.now in
     let entries = length c.args.levels.now.entries.now in
-    let ok : is_ok c.can-make-from-answer.result ≡ true = sym c.is-ok.ensures.value ∙ c.if-is-ok.true in
+    let ok : is_ok c.can_make_from-answer.result ≡ true = sym c.is_ok.ensures.value ∙ c.if-is_ok.true in
     let same = made_with (fitting n marks entries) (claims_in level.width level.decode n level.kind certificate)
-    c.can-make-from-answer.result c.can-make-from-answer.ensures.value ok in
-    let marks_so = c.put-claims.ensures.marks
+    c.can_make_from-answer.result c.can_make_from-answer.ensures.value ok in
+    let marks_so = c.put_claims.ensures.marks
     ∙ ap (λ m. with_claims m (claims_or_none (claims_in level.width level.decode c.atoms.result level.kind certificate))) c.make.ensures.marks
     ∙ ap (λ a. with_claims (replicate marks 0) (claims_or_none (claims_in level.width level.decode a level.kind certificate))) c.atoms.ensures.value
     ∙ ap (λ r. with_claims (replicate marks 0) (claims_or_none r)) same in
-    let entries_so = c.put-claims.ensures.entries
+    let entries_so = c.put_claims.ensures.entries
     ∙ ap (λ e. with_levels e (claims_or_none (claims_in level.width level.decode c.atoms.result level.kind certificate))) c.make.ensures.entries
     ∙ ap (λ a. with_levels (replicate entries Empty) (claims_or_none (claims_in level.width level.decode a level.kind certificate))) c.atoms.ensures.value
     ∙ ap (λ r. with_levels (replicate entries Empty) (claims_or_none r)) same in
@@ -28,18 +28,18 @@ returns-then-is-ok g c =
       marks = marks_so;
       entries = entries_so;
       claimed = made_as (made_for level.width level.decode n level.kind certificate marks entries) marks_so entries_so;
-      named = c.put-claims.ensures.named ∙ c.make.ensures.named;
+      named = c.put_claims.ensures.named ∙ c.make.ensures.named;
     }
 
-pub returns-else-is-ok : goal.returns-else-is-ok
-returns-else-is-ok g c =
+pub returns-else-is_ok : goal.returns-else-is_ok
+returns-else-is_ok g c =
     let level = g.L.StoredLevel in
     let n = (g.S.RuleSource.meaning c.args.source.now).atoms in
     let certificate = c.args.certificate.now in
     let marks = length c.args.marks.now in
     let entries = length c.args.levels.now.entries.now in
-    let refused : is_ok c.can-make-from-answer.result ≡ false = sym c.is-ok.ensures.value ∙ c.if-is-ok.false in
-    let none = made_without (claims_for level.width level.decode n level.kind marks entries certificate) c.can-make-from-answer.result c.can-make-from-answer.ensures.value refused in
+    let refused : is_ok c.can_make_from-answer.result ≡ false = sym c.is_ok.ensures.value ∙ c.if-is_ok.false in
+    let none = made_without (claims_for level.width level.decode n level.kind marks entries certificate) c.can_make_from-answer.result c.can_make_from-answer.ensures.value refused in
     let marks_so = c.make.ensures.marks ∙ ap (made_marks marks) (sym none) in
     let entries_so = c.make.ensures.entries ∙ ap (made_entries entries) (sym none) in
     record {

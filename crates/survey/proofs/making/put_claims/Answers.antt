@@ -18,15 +18,15 @@ pub claims-preserved : goal.claims-preserved
 claims-preserved g c =
     let level = g.L.StoredLevel in (
       left_after level.width level.decode c.args.n c.args.certificate.now c.claims.place _ _ _ _ c.claims.invariant.0 c.in-Some.step c.in-Some.ensures.value
-          c.put-in.new.marks c.put-entry.new.levels.entries.now c.put-in.ensures.after c.put-entry.ensures.after,
-      c.put-entry.ensures.named ∙ c.claims.invariant.1,
+          c.put_in.new.marks c.put_entry.new.levels.entries.now c.put_in.ensures.after c.put_entry.ensures.after,
+      c.put_entry.ensures.named ∙ c.claims.invariant.1,
     )
 
 pub returns : goal.returns
 returns g c =
     let level = g.L.StoredLevel in
     record {
-      marks = marks_done level.width level.decode c.args.n c.args.certificate.now c.claims.place _ _ _ _ c.claims.invariant.0 c.in-default.ensures.value;
-      entries = entries_done level.width level.decode c.args.n c.args.certificate.now c.claims.place _ _ _ _ c.claims.invariant.0 c.in-default.ensures.value;
+      marks = marks_done level.width level.decode c.args.n c.args.certificate.now c.claims.place _ _ _ _ c.claims.invariant.0 c.in_default.ensures.value;
+      entries = entries_done level.width level.decode c.args.n c.args.certificate.now c.claims.place _ _ _ _ c.claims.invariant.0 c.in_default.ensures.value;
       named = c.claims.invariant.1;
     }

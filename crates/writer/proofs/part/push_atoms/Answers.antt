@@ -1,5 +1,5 @@
 -- One atom more is put.
-use Rattle.std.proofs.Common.{◌≡◌, ◌+◌, ◌<◌, ◌++◌, length, take, sym, ap, ◌∙◌, arith, length-take}
+use Rattle.std.proofs.Common.{◌≡◌, ◌+◌, ◌++◌, length, take, sym, ap, ◌∙◌, arith, length-take}
 use Rattle.std.proofs.lemmas.List.{append_assoc, length-append}
 use Rattle.rules.proofs.Tests.{within_from_nth}
 use Rattle.records.specs.Words.{two_bytes, word_bytes}
@@ -7,7 +7,6 @@ use Rattle.records.proofs.Encoded.{length-word_bytes}
 use Rattle.writer.specs.Gathered.{gathered}
 use Rattle.writer.specs.Parts.{atoms_in}
 use Rattle.writer.proofs.Atoms.{few_atoms, one_more, all_taken}
-use Rattle.writer.proofs.part.push_atoms.Given as given
 use Rattle.writer.proofs.part.push_atoms.Goals as goal
 
 pub push-requires : goal.push-requires
@@ -19,8 +18,8 @@ push-requires g c =
     let long : length (gathered c.loop-atom.block) ≡ length before + length (word_bytes done) = ap length c.loop-atom.invariant ∙ length-append before (word_bytes done) in
     record { room = omega (arith, long, length-word_bytes done, length-take c.loop-atom.position atoms, c.requires.room) }
 
-pub overflow-add-position : goal.overflow-add-position
-overflow-add-position g c =
+pub overflow_add-position : goal.overflow_add-position
+overflow_add-position g c =
     let p = g.S.RuleSource.meaning c.args.source.now in
     let few = few_atoms p (g.S.RuleSource.lawful c.args.source.now) c.args.rule c.args.part in
     let inside = within_from_nth (atoms_in p c.args.rule c.args.part) c.loop-atom.position c.in-Some.atom (sym c.in-Some.ensures.value) in
@@ -44,4 +43,4 @@ loop-atom-preserved g c =
 pub returns : goal.returns
 returns g c =
     let atoms = atoms_in (g.S.RuleSource.meaning c.args.source.now) c.args.rule c.args.part in
-    record { after = c.loop-atom.invariant ∙ ap (λ t. gathered c.args.block.now ++ word_bytes t) (all_taken atoms c.loop-atom.position (sym c.in-default.ensures.value)) }
+    record { after = c.loop-atom.invariant ∙ ap (λ t. gathered c.args.block.now ++ word_bytes t) (all_taken atoms c.loop-atom.position (sym c.in_default.ensures.value)) }

@@ -1,5 +1,5 @@
 -- What the loop of `push_atoms` keeps.
-use Rattle.std.proofs.Common.{◌≡◌, ◌-◌, ◌≤◌, ◌++◌, length, take}
+use Rattle.std.proofs.Common.{◌≡◌, ◌-◌, ◌++◌, length, take}
 use Rattle.records.specs.Words.{word_bytes}
 use Rattle.writer.specs.Gathered.{gathered}
 use Rattle.writer.specs.Parts.{atoms_in}

@@ -12,4 +12,4 @@ returns-in-Some g c =
 pub returns : goal.returns
 returns g c =
     let self = c.args.self.now in
-    record { value = c.fact-head.ensures.value ∙ head_of_absent (g.S.RuleSource.meaning self.below) (held self.inputs) (g.S.RuleSource.lawful self.below) c.args.rule c.in-default.ensures.value }
+    record { value = c.fact_head.ensures.value ∙ head_of_absent (g.S.RuleSource.meaning self.below) (held self.inputs) (g.S.RuleSource.lawful self.below) c.args.rule c.in_default.ensures.value }

@@ -9,19 +9,19 @@ use Rattle.inputs.proofs.source.InputsRuleSource.rules.Goals as goal
 use Rattle.inputs.proofs.source.InputsRuleSource.rules.Goals.{After-rules}
 
 -- what is counted are the facts
-counted : (g : given.Over) (c : After-rules g) → c.count-atoms-facts.result ≡ length (filter (within (g.S.RuleSource.meaning c.args.self.now.below).atoms) (held c.args.self.now.inputs))
+counted : (g : given.Over) (c : After-rules g) → c.count_atoms-facts.result ≡ length (filter (within (g.S.RuleSource.meaning c.args.self.now.below).atoms) (held c.args.self.now.inputs))
 counted g c =
-    c.count-atoms-facts.ensures.value
-    ∙ ap (λ n. length (filter (within n) c.as-slice.result.now)) c.atoms.ensures.value
-    ∙ ap (λ inputs. length (filter (within (g.S.RuleSource.meaning c.args.self.now.below).atoms) inputs)) c.as-slice.ensures.value
+    c.count_atoms-facts.ensures.value
+    ∙ ap (λ n. length (filter (within n) c.as_slice.result.now)) c.atoms.ensures.value
+    ∙ ap (λ inputs. length (filter (within (g.S.RuleSource.meaning c.args.self.now.below).atoms) inputs)) c.as_slice.ensures.value
 
-pub count-atoms-facts-requires : goal.count-atoms-facts-requires
-count-atoms-facts-requires g c =
+pub count_atoms-facts-requires : goal.count_atoms-facts-requires
+count_atoms-facts-requires g c =
     let table = c.args.self.now.inputs in
-    record { few = omega (arith, ap length c.as-slice.ensures.value, length-take table.count table.atoms) }
+    record { few = omega (arith, ap length c.as_slice.ensures.value, length-take table.count table.atoms) }
 
-pub overflow-add-rules : goal.overflow-add-rules
-overflow-add-rules g c =
+pub overflow_add-rules : goal.overflow_add-rules
+overflow_add-rules g c =
     let self = c.args.self.now in
     let inputs = held self.inputs in
     let test = within (g.S.RuleSource.meaning self.below).atoms in

@@ -3,5 +3,5 @@ use Rattle.program_file.proofs.Starts.{from_indexed}
 use Rattle.program.specs.Reading.{program_in}
 use Rattle.program_file.proofs.file.ProgramFile.over.Goals as goal
 
-pub invariant-of-result : goal.invariant-of-result
-invariant-of-result c = let known = from_indexed (program_in c.args.bytes.now) c.args.index c.requires.checked in (known.0, (known.1, tt))
+pub invariant_of-result : goal.invariant_of-result
+invariant_of-result c = let known = from_indexed (program_in c.args.bytes.now) c.args.index c.requires.checked in record { checked = known.0; indexed = known.1 }

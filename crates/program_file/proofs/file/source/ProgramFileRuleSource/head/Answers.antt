@@ -4,13 +4,13 @@ use Rattle.std.specs.Option.{option_map}
 use Rattle.program_file.proofs.Questions.{rule_stands, rule_absent, head_answer}
 use Rattle.program_file.proofs.file.source.ProgramFileRuleSource.head.Goals as goal
 
-pub returns-in-default : goal.returns-in-default
-returns-in-default c =
+pub returns-in_default : goal.returns-in_default
+returns-in_default c =
     let file = c.args.self.now in
-    record { value = sym (ap (λ o. option_map (λ r. r.head) o) (rule_absent file.bytes.now file.checked file.index file.indexed c.args.rule c.in-default.ensures.value)) }
+    record { value = sym (ap (λ o. option_map (λ r. r.head) o) (rule_absent file.bytes.now file.checked file.index file.indexed c.args.rule c.in_default.ensures.value)) }
 
 pub returns : goal.returns
 returns c =
     let file = c.args.self.now in
     let at = rule_stands file.bytes.now file.checked file.index file.indexed c.args.rule c.in-Some.start c.in-Some.ensures.value in
-    record { value = c.head-at.ensures.value ∙ head_answer file.bytes.now c.in-Some.start _ at }
+    record { value = c.head_at.ensures.value ∙ head_answer file.bytes.now c.in-Some.start _ at }
