@@ -1,9 +1,12 @@
 // Runs cases of files, tables and orders through the library, and prints a line for each.
+#![tactic(auto)]
+
 use std::io;
 
 mod certificates;
-mod orders;
+mod level_orders;
 mod programs;
+mod reading;
 mod tables;
 mod verdicts;
 
@@ -12,5 +15,6 @@ fn main(rt: HostRuntime) -> io::Result<()> {
     certificates::print_all(&rt)?;
     verdicts::print_all(&rt)?;
     tables::print_all(&rt)?;
-    orders::print_all(&rt)
+    level_orders::print_all(&rt)?;
+    reading::print_all(&rt)
 }

@@ -1,7 +1,7 @@
 // Cases for the tables of a survey.
 ghost use Rattle.std.specs.Prelude.{◌≡◌, length, IfOk, vec_len};
 
-use crate::orders::ShownLevel;
+use crate::level_orders::ShownLevel;
 use crate::verdicts::{LOOP_ALONE, LOOP_WITH_ENTRY, NO_FACT};
 use levels::order::StoredLevel;
 use levels::table::{Entry, LevelTable};

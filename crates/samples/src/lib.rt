@@ -1,3 +1,5 @@
 // Files built for cases, and the lines that are printed of them.
+#![tactic(auto)]
+
 pub mod bytes;
 pub mod lines;

@@ -2,6 +2,7 @@
 use crate::bytes::{Claim, FileBytes, Order, Records};
 use console::answer::answer;
 use console::line::write_line;
+use files::read_front;
 use refusal::Refusal;
 use std::io;
 use verdict::Verdict;
@@ -69,6 +70,14 @@ pub fn print_case(rt: &HostRuntime, side: Side, name: &str, file: &[u8]) -> io::
         Side::Certificate => answer(SMALL_PROGRAM, file),
     };
     print_answer(rt, name, answer)
+}
+
+// How many bytes of a file on the disk are read, and the answer for them.
+pub fn print_read(rt: &HostRuntime, name: &str, file: &str) -> io::Result<()> {
+    let bytes = read_front(rt, file)?;
+    let count = bytes.len();
+    println!(rt; "{name}: {count} bytes read")?;
+    print_case(rt, Side::Program, name, &bytes)
 }
 
 // The same for a file that was built.

@@ -11,24 +11,24 @@ use Rattle.source_cases.specs.Repeated.{fact, repeated}
 use Rattle.source_cases.specs.declared.repeated.Repeated.{Repeated}
 
 module _ (s : Repeated) (k : ℕ) where
-  abbrev many : ℕ
-  many = min s.rules 16384
+  abbrev in_force : ℕ
+  in_force = min s.rules 16384
 
   pub head_of_zero : k ≡ 0 → head_at (repeated s) k ≡ None
-  head_of_zero none = ap (option_map (λ r. r.head)) (cond-true (eqb k 0) None (slice_get (replicate many fact) (k - 1)) (eq-eqb k 0 none))
+  head_of_zero none = ap (option_map (λ r. r.head)) (cond-true (eqb k 0) None (slice_get (replicate in_force fact) (k - 1)) (eq-eqb k 0 none))
 
-  head_by_place : 0 < k → head_at (repeated s) k ≡ option_map (λ r. r.head) (slice_get (replicate many fact) (k - 1))
-  head_by_place some = ap (option_map (λ r. r.head)) (cond-false (eqb k 0) None (slice_get (replicate many fact) (k - 1)) (ne_eqb k 0 (λ z. omega arith)))
+  head_by_place : 0 < k → head_at (repeated s) k ≡ option_map (λ r. r.head) (slice_get (replicate in_force fact) (k - 1))
+  head_by_place some = ap (option_map (λ r. r.head)) (cond-false (eqb k 0) None (slice_get (replicate in_force fact) (k - 1)) (ne_eqb k 0 (λ z. omega arith)))
 
-  pub head_past : many < k → head_at (repeated s) k ≡ None
+  pub head_past : in_force < k → head_at (repeated s) k ≡ None
   head_past past =
       head_by_place (omega arith)
-      ∙ ap (option_map (λ r. r.head)) (slice_get_past (replicate many fact) (k - 1) (omega (arith, length-replicate many fact)))
+      ∙ ap (option_map (λ r. r.head)) (slice_get_past (replicate in_force fact) (k - 1) (omega (arith, length-replicate in_force fact)))
 
-  pub head_there : 0 < k → k ≤ many → head_at (repeated s) k ≡ Some 1
+  pub head_there : 0 < k → k ≤ in_force → head_at (repeated s) k ≡ Some 1
   head_there some there =
       head_by_place some
-      ∙ ap (option_map (λ r. r.head)) (slice_get-get_or (replicate many fact) (k - 1) fact (omega (arith, length-replicate many fact)) ∙ ap Some (get_or-replicate many (k - 1) fact fact (omega arith)))
+      ∙ ap (option_map (λ r. r.head)) (slice_get-get_or (replicate in_force fact) (k - 1) fact (omega (arith, length-replicate in_force fact)) ∙ ap Some (get_or-replicate in_force (k - 1) fact fact (omega arith)))
 
 -- a part that the fact does not have is absent at every rule
 module _ (part : Rule → List ℕ) (none : part fact ≡ []) (i : ℕ) where

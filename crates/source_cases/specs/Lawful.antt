@@ -2,7 +2,7 @@
 use Rattle.std.specs.Prelude.{ℕ, zero, suc, min, replicate, refl}
 use Rattle.std.proofs.Common.{arith}
 use Rattle.std.proofs.lemmas.List.{length-replicate}
-use Rattle.std.specs.List.{AllByRecursion as All}
+use Rattle.std.specs.List.{AllByRecursion}
 use Rattle.rules.specs.Program.{Lawful, LawfulRule}
 use Rattle.source_cases.specs.Repeated.{fact, repeated}
 use Rattle.source_cases.specs.declared.repeated.Repeated.{Repeated}
@@ -19,7 +19,7 @@ fact_lawful =
       few_atoms = omega arith;
     }
 
-each_lawful : (many : ℕ) → All (LawfulRule 100) (replicate many fact)
+each_lawful : (many : ℕ) → AllByRecursion (LawfulRule 100) (replicate many fact)
 each_lawful zero = tt
 each_lawful (suc many) = (fact_lawful, each_lawful many)
 

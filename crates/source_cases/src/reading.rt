@@ -1,38 +1,19 @@
-// Cases for files on the disk, which stand in the folder `data`.
+// Cases for a file that is read, written and read again; it stands in the folder `data`.
 use crate::asking::print_rules_in;
 use crate::writing::{print_digits, print_output, written};
 use files::read_front;
 use inputs::Inputs;
 use program::reader::check;
 use program_file::file::ProgramFile;
-use samples::lines::{Side, print_answer, print_case, print_done};
+use samples::lines::{print_answer, print_done, print_read};
 use std::{fs, io};
-
-// A name, and that of a file: `longer.bin` is a lawful program of 65000 bytes and 100 bytes more.
-const READ: &[(&str, &str)] = &[
-    ("small program in a file", "small.bin"),
-    ("file of 65100 bytes", "longer.bin"),
-    ("file that is not there", "missing.bin"),
-    ("folder in place of a file", "."),
-];
 
 // The file that is written.
 const WRITTEN: &str = "written.bin";
 
 pub fn print_all(rt: &HostRuntime) -> io::Result<()> {
-    for (name, file) in READ {
-        print_read(rt, name, file)?;
-    }
     let small = read_front(rt, "small.bin")?;
     print_written(rt, "small program with an input", &small)
-}
-
-// How many bytes are read, and the answer for them.
-fn print_read(rt: &HostRuntime, name: &str, file: &str) -> io::Result<()> {
-    let bytes = read_front(rt, file)?;
-    let count = bytes.len();
-    println!(rt; "{name}: {count} bytes read")?;
-    print_case(rt, Side::Program, name, &bytes)
 }
 
 // Writes a program with the input 2 to a new file, and reads that.

@@ -2,7 +2,7 @@
 ghost use Rattle.std.specs.Prelude.{◌≡◌, ◌+◌, ◌*◌, ◌≤◌, IfOk, vec_len};
 
 use crate::asking::print_rules_in;
-use crate::inputs::{BOTH_PARTS, put_first};
+use crate::input_atoms::{BOTH_PARTS, put_first};
 use crate::repeated::Repeated;
 use inputs::Inputs;
 use program::reader::check;

@@ -5,4 +5,4 @@ use Rattle.source_cases.proofs.repeated.source.RepeatedRuleSource.negative.Goals
 
 pub returns : goal.returns
 returns c =
-    record { value = sym (no_atom (λ r. r.negative) refl c.args.-position (eqb c.args.-rule 0) (min c.args.self.now.rules 16384) (c.args.-rule - 1)) }
+    record { value = sym (no_atom (λ r. r.negative) refl c.args._position (eqb c.args._rule 0) (min c.args.self.now.rules 16384) (c.args._rule - 1)) }
