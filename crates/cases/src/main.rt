@@ -7,14 +7,14 @@ mod certificates;
 mod level_orders;
 mod programs;
 mod reading;
-mod tables;
+mod surveys;
 mod verdicts;
 
 fn main(rt: HostRuntime) -> io::Result<()> {
     programs::print_all(&rt)?;
     certificates::print_all(&rt)?;
     verdicts::print_all(&rt)?;
-    tables::print_all(&rt)?;
+    surveys::print_all(&rt)?;
     level_orders::print_all(&rt)?;
     reading::print_all(&rt)
 }

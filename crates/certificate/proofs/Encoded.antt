@@ -1,5 +1,5 @@
 -- The bytes of a claim: what is written is read again, and what is read was so written. Assumes nothing.
-use Rattle.std.proofs.Common.{◌≡◌, ℕ, suc, ◌+◌, ◌-◌, ◌<◌, ◌≤◌, true, eqb, List, ◌++◌, length, take, drop, unwrap_or, sym, refl, ap, ◌∙◌, ⊎_elim, arith}
+use Rattle.std.proofs.Common.{◌≡◌, ℕ, suc, ◌+◌, ◌-◌, ◌<◌, ◌≤◌, true, eqb, List, ◌++◌, length, take, drop, unwrap_or, sym, refl, ap, ◌∙◌, ⊎_elim, arith, Some, None, Option}
 use Rattle.std.specs.List.{between}
 use Rattle.std.proofs.lemmas.List.{length-append, length-take, length-drop, take_at, drop-drop}
 use Rattle.std.proofs.ByRecursion.{All-take, All-drop}
@@ -7,8 +7,6 @@ use Rattle.std.proofs.lemmas.Bool.{eqb-true, eq-eqb, ne_eqb, or_cases, or_right,
 use Rattle.records.specs.Words.{Bytes, two_bytes, record_bytes, word_at}
 use Rattle.records.proofs.Encoded.{word_of_two, first_word_there, first_two, header_of_record, record_here}
 use Rattle.levels.specs.Stored.{Stored}
-use Rattle.levels.specs.declared.table.Entry.{Entry}
-use Rattle.levels.specs.declared.table.Entry.TheVariants.{Empty, Holds}
 use Rattle.certificate.specs.Encoding.{level_bytes, claim_bytes}
 use Rattle.certificate.specs.Reading.{claim_length, level_in, claim_of}
 use Rattle.certificate.specs.declared.Claim.{Claim}
@@ -22,23 +20,23 @@ module _ {L : Type 0} (encode : L → List ℕ) where
 module _ {L : Type 0} (width : ℕ) (encode : L → List ℕ) (decode : List ℕ → L) (stored : Stored width encode decode) where
   -- FROM WHAT IS WRITTEN
 
-  entry_long : (a : ℕ) (e : Entry L) → claim_length width (length (two_bytes a ++ level_bytes encode e)) ≡ true
-  entry_long a Empty = refl
-  entry_long a (Holds x) =
+  entry_long : (a : ℕ) (e : Option L) → claim_length width (length (two_bytes a ++ level_bytes encode e)) ≡ true
+  entry_long a None = refl
+  entry_long a (Some x) =
       let size = length (two_bytes a ++ encode x) in
       or_right (eqb size 2) (eqb size (2 + width)) (eq-eqb size (2 + width) (omega (arith, stored.sized x)))
 
-  entry_read : (a : ℕ) (e : Entry L) (tail : List ℕ) → level_in width decode (record_bytes 18 (two_bytes a ++ level_bytes encode e) ++ tail) (length (two_bytes a ++ level_bytes encode e)) ≡ e
-  entry_read a Empty tail = refl
-  entry_read a (Holds x) tail =
+  entry_read : (a : ℕ) (e : Option L) (tail : List ℕ) → level_in width decode (record_bytes 18 (two_bytes a ++ level_bytes encode e) ++ tail) (length (two_bytes a ++ level_bytes encode e)) ≡ e
+  entry_read a None tail = refl
+  entry_read a (Some x) tail =
       let rest = record_bytes 18 (two_bytes a ++ encode x) ++ tail in
       let size = length (two_bytes a ++ encode x) in
       let some = stored.some in
       let sized = stored.sized x in
       let long : length (encode x) ≡ (4 + size) - 6 = omega arith in
-      cond-false (eqb size 2) Empty (Holds (decode (between 6 (4 + size) rest))) (ne_eqb size 2 (λ same. omega arith))
-      ∙ ap (λ t. Holds (decode t)) (take_at (encode x) tail ((4 + size) - 6) long)
-      ∙ ap Holds (stored.read_written x)
+      cond-false (eqb size 2) None (Some (decode (between 6 (4 + size) rest))) (ne_eqb size 2 (λ same. omega arith))
+      ∙ ap (λ t. Some (decode t)) (take_at (encode x) tail ((4 + size) - 6) long)
+      ∙ ap Some (stored.read_written x)
 
   module _ (c : Claim L) (tail : List ℕ) where
     pub claim_of_bytes : claim_of width decode (claim_bytes encode c ++ tail) (length (contents encode c)) ≡ c
@@ -63,7 +61,7 @@ module _ {L : Type 0} (width : ℕ) (encode : L → List ℕ) (decode : List ℕ
     no_level_read : size ≡ 2 → level_bytes encode (level_in width decode rest size) ≡ level_part
     no_level_read same =
         let none : size - 2 ≡ 0 = omega arith in
-        ap (level_bytes encode) (cond-true (eqb size 2) Empty (Holds (decode (between 6 (4 + size) rest))) (eq-eqb size 2 same))
+        ap (level_bytes encode) (cond-true (eqb size 2) None (Some (decode (between 6 (4 + size) rest))) (eq-eqb size 2 same))
         ∙ ap (λ n. take n (drop 6 rest)) (sym none)
 
     level_read : size ≡ 2 + width → level_bytes encode (level_in width decode rest size) ≡ level_part
@@ -74,7 +72,7 @@ module _ {L : Type 0} (width : ℕ) (encode : L → List ℕ) (decode : List ℕ
         let long : length (between 6 (4 + size) rest) ≡ width = simp (length-take, length-drop) (omega arith) in
         let fits = All-take (λ b. b < 256) ((4 + size) - 6) (drop 6 rest) (All-drop (λ b. b < 256) 6 rest small) in
         let less : (4 + size) - 6 ≡ size - 2 = omega arith in
-        ap (level_bytes encode) (cond-false (eqb size 2) Empty (Holds (decode part)) (ne_eqb size 2 (λ two. omega arith)))
+        ap (level_bytes encode) (cond-false (eqb size 2) None (Some (decode part)) (ne_eqb size 2 (λ two. omega arith)))
         ∙ stored.written_read part long fits
         ∙ ap (λ n. take n (drop 6 rest)) less
 

@@ -3,5 +3,5 @@ pub mod Encoded
 pub mod Never
 pub mod Relation
 pub mod Standing
-pub mod Steps
 pub mod Turns
+pub mod Walked

@@ -11,8 +11,6 @@ use Rattle.rules.specs.Program.{within}
 use Rattle.certificate.specs.Reading.{refuse, by_numbers, by_head_header, stated_kind, claim_length, opened_claim, by_header, opened, claim_of, after_end, after_claim, by_fault, next_record, claims_from, by_kind, claims_in}
 use Rattle.certificate.specs.Relation.{NeverTooMany}
 use Rattle.certificate.specs.declared.Claim.{Claim}
-use Rattle.certificate.specs.declared.Opened.{Opened}
-use Rattle.certificate.specs.declared.Opened.TheVariants.{End, ClaimRecord}
 use Rattle.certificate.proofs.Claims.{more, claims_by}
 
 -- a refusal, if any, is for another reason
@@ -50,19 +48,19 @@ other_kind n bytes = cond_both (leb (length bytes) 65000) (by_head_header n byte
 module _ (width : ℕ) (rest : List ℕ) (place : ℕ) where
   other_claim : (s : ℕ) → Other (opened_claim width rest place s)
   other_claim s =
-      let fits = cond (leb (4 + s) (length rest)) (Ok (ClaimRecord s)) (refuse Cut place) in
+      let fits = cond (leb (4 + s) (length rest)) (Ok (Some s)) (refuse Cut place) in
       cond_both (claim_length width s) fits (refuse Length place) Other
-      (λ _. cond_both (leb (4 + s) (length rest)) (Ok (ClaimRecord s)) (refuse Cut place) Other (λ _. tt) (λ _. unlike Cut (omega arith)))
+      (λ _. cond_both (leb (4 + s) (length rest)) (Ok (Some s)) (refuse Cut place) Other (λ _. tt) (λ _. unlike Cut (omega arith)))
       (λ _. unlike Length (omega arith))
 
   other_header : (o : Option Header) → Other (by_header width rest place o)
   other_header None = unlike Cut (omega arith)
   other_header (Some h) =
-      let last = cond (eqb h.length 0) (Ok End) (refuse Length place) in
+      let last = cond (eqb h.length 0) (Ok None) (refuse Length place) in
       cond_both (eqb h.kind 18) (opened_claim width rest place h.length) (cond (eqb h.kind 3) last (refuse Kind place)) Other
       (λ _. other_claim h.length)
       (λ _. cond_both (eqb h.kind 3) last (refuse Kind place) Other
-      (λ _. cond_both (eqb h.length 0) (Ok End) (refuse Length place) Other (λ _. tt) (λ _. unlike Length (omega arith)))
+      (λ _. cond_both (eqb h.length 0) (Ok None) (refuse Length place) Other (λ _. tt) (λ _. unlike Length (omega arith)))
       (λ _. unlike Kind (omega arith)))
 
 -- THE RECORDS
@@ -75,11 +73,11 @@ module _ {L : Type 0} (width : ℕ) (decode : List ℕ → L) where
   -- `beyond` is of a claim whose atom passes
   other_next : (n last : ℕ) (rest : List ℕ) (place : ℕ) (after : ℕ → Result (List (Claim L)) Refusal)
       → ((size : ℕ) → last < (claim_of width decode rest size).atom → (claim_of width decode rest size).atom ≤ n → Other (after size))
-      → (o : Result Opened Refusal) → opened width rest place ≡ o → Other (next_record width decode n last rest place after o)
+      → (o : Result (Option ℕ) Refusal) → opened width rest place ≡ o → Other (next_record width decode n last rest place after o)
   other_next n last rest place after beyond (Err e) is = subst Other is (other_header width rest place (header_of rest))
-  other_next n last rest place after beyond (Ok End) is =
+  other_next n last rest place after beyond (Ok None) is =
       cond_both (eqb (length rest) 4) (Ok tt) (refuse Trailing (place + 4)) (λ r. Other (after_end width decode r)) (λ _. tt) (λ _. unlike Trailing (omega arith))
-  other_next n last rest place after beyond (Ok (ClaimRecord size)) is =
+  other_next n last rest place after beyond (Ok (Some size)) is =
       let atom = (claim_of width decode rest size).atom in
       cond_both (within n atom) (cond (ltb last atom) None (Some Order)) (Some Atom) (λ f. Other (by_fault width decode place (after size) f))
       (λ known. cond_both (ltb last atom) None (Some Order) (λ f. Other (by_fault width decode place (after size) f))

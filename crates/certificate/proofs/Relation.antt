@@ -18,7 +18,6 @@ use Rattle.certificate.specs.Encoding.{head_bytes, claim_bytes, end_bytes, encod
 use Rattle.certificate.specs.Reading.{refuse, by_numbers, by_head_header, stated_kind, claim_of, atom_fault, after_end, after_claim, by_fault, claims_from, by_kind, claims_in}
 use Rattle.certificate.specs.Relation.{ReadsExactly}
 use Rattle.certificate.specs.declared.Claim.{Claim}
-use Rattle.certificate.specs.declared.Opened.TheVariants.{End, ClaimRecord}
 use Rattle.certificate.proofs.Claims.{claims_by, Ends, Goes, turn}
 use Rattle.certificate.proofs.Standing.{opened_from_claim, claim_here, opened_from_end, end_here, ended_from, ended_so, no_fault, sound_so}
 use Rattle.certificate.proofs.Encoded.{contents, claim_of_bytes, written_here, claim_bytes_read}
@@ -90,7 +89,7 @@ module _ {L : Type 0} (width : ℕ) (encode : L → List ℕ) (decode : List ℕ
   claims_written : (cs : List (Claim L)) (room last place : ℕ) → all (within n) (atoms_of cs) ≡ true → ascends_above last (atoms_of cs) ≡ true → n ≤ last + room
       → claims_from width decode room n last (flat_map (claim_bytes encode) cs ++ end_bytes) place ≡ Ok cs
   claims_written [] room last place known ascends enough =
-      claims_by width decode n last end_bytes place room (Ok End) (opened_from_end width end_bytes place refl)
+      claims_by width decode n last end_bytes place room (Ok None) (opened_from_end width end_bytes place refl)
       ∙ ap (after_end width decode) (ended_from end_bytes place refl)
   claims_written (c ∷ cs) zero last place known ascends enough =
       let first = and_parts (leb 1 c.atom) (leb c.atom n) (and_parts (within n c.atom) (all (within n) (atoms_of cs)) known).0 in
@@ -109,7 +108,7 @@ module _ {L : Type 0} (width : ℕ) (encode : L → List ℕ) (decode : List ℕ
       let more = ap (λ t. claims_from width decode room n c.atom t next) (after_record 18 (contents encode c) tail)
       ∙ claims_written cs room c.atom next passes.1 above.1 (omega arith) in
       ap (λ t. claims_from width decode (suc room) n last t place) split
-      ∙ claims_by width decode n last rest place (suc room) (Ok (ClaimRecord size)) is
+      ∙ claims_by width decode n last rest place (suc room) (Ok (Some size)) is
       ∙ ap (λ (x : Claim L). by_fault width decode place (after_claim width decode x (claims_from width decode room n x.atom (drop (4 + size) rest) next)) (atom_fault n last x.atom)) (claim_of_bytes width encode decode stored c tail)
       ∙ ap (by_fault width decode place (after_claim width decode c (claims_from width decode room n c.atom (drop (4 + size) rest) next))) (no_fault n last c.atom passes.0 above.0)
       ∙ ap (after_claim width decode c) more

@@ -7,7 +7,6 @@ use Rattle.records.specs.Words.{header_of}
 use Rattle.records.specs.declared.Header.{Header}
 use Rattle.rules.specs.Program.{within}
 use Rattle.certificate.specs.Reading.{refuse, claim_length, opened_claim, by_header, opened, atom_fault, ended}
-use Rattle.certificate.specs.declared.Opened.TheVariants.{End, ClaimRecord}
 
 -- A CLAIM'S RECORD
 
@@ -18,13 +17,13 @@ pub record ClaimHere (width : ℕ) (rest : List ℕ) (size : ℕ) : Type 0 where
   pub whole : 4 + size ≤ length rest
 
 module _ (width : ℕ) (rest : List ℕ) (place size : ℕ) where
-  pub opened_from_claim : ClaimHere width rest size → opened width rest place ≡ Ok (ClaimRecord size)
+  pub opened_from_claim : ClaimHere width rest size → opened width rest place ≡ Ok (Some size)
   opened_from_claim here =
       ap (by_header width rest place) here.header
-      ∙ cond-true (claim_length width size) (cond (leb (4 + size) (length rest)) (Ok (ClaimRecord size)) (refuse Cut place)) (refuse Length place) here.long
-      ∙ cond-true (leb (4 + size) (length rest)) (Ok (ClaimRecord size)) (refuse Cut place) (le-leb (4 + size) (length rest) here.whole)
+      ∙ cond-true (claim_length width size) (cond (leb (4 + size) (length rest)) (Ok (Some size)) (refuse Cut place)) (refuse Length place) here.long
+      ∙ cond-true (leb (4 + size) (length rest)) (Ok (Some size)) (refuse Cut place) (le-leb (4 + size) (length rest) here.whole)
 
-  claim_opened : (s : ℕ) → header_of rest ≡ Some (record { length = s; kind = 18 }) → opened_claim width rest place s ≡ Ok (ClaimRecord size) → ClaimHere width rest size
+  claim_opened : (s : ℕ) → header_of rest ≡ Some (record { length = s; kind = 18 }) → opened_claim width rest place s ≡ Ok (Some size) → ClaimHere width rest size
   claim_opened s header is =
       let long = passed (claim_length width s) err_not_ok is in
       let whole = passed (leb (4 + s) (length rest)) err_not_ok long.1 in
@@ -35,44 +34,44 @@ module _ (width : ℕ) (rest : List ℕ) (place size : ℕ) where
         whole = omega (arith, leb-true (4 + s) (length rest) whole.0);
       }
 
-  claim_by_header : (o : Option Header) → header_of rest ≡ o → by_header width rest place o ≡ Ok (ClaimRecord size) → ClaimHere width rest size
+  claim_by_header : (o : Option Header) → header_of rest ≡ o → by_header width rest place o ≡ Ok (Some size) → ClaimHere width rest size
   claim_by_header None header is = absurd (err_not_ok is)
   claim_by_header (Some h) header is = by_kind (eqb h.kind 18) refl is
     where
-      by_kind : (b : Bool) → eqb h.kind 18 ≡ b → cond b (opened_claim width rest place h.length) (cond (eqb h.kind 3) (cond (eqb h.length 0) (Ok End) (refuse Length place)) (refuse Kind place)) ≡ Ok (ClaimRecord size) → ClaimHere width rest size
+      by_kind : (b : Bool) → eqb h.kind 18 ≡ b → cond b (opened_claim width rest place h.length) (cond (eqb h.kind 3) (cond (eqb h.length 0) (Ok None) (refuse Length place)) (refuse Kind place)) ≡ Ok (Some size) → ClaimHere width rest size
       by_kind true kind is = claim_opened h.length (header ∙ ap (λ n. Some (record { length = h.length; kind = n })) (eqb-true h.kind 18 kind)) is
       by_kind false kind is =
           let third = passed (eqb h.kind 3) err_not_ok is in
           let last = (passed (eqb h.length 0) err_not_ok third.1).1 in
           absurd (let z : ◌≡◌ {A = ℕ} 0 1 = cc in omega arith)
 
-  pub claim_here : opened width rest place ≡ Ok (ClaimRecord size) → ClaimHere width rest size
+  pub claim_here : opened width rest place ≡ Ok (Some size) → ClaimHere width rest size
   claim_here = claim_by_header (header_of rest) refl
 
 -- THE END'S RECORD
 
 module _ (width : ℕ) (rest : List ℕ) (place : ℕ) where
-  pub opened_from_end : header_of rest ≡ Some (record { length = 0; kind = 3 }) → opened width rest place ≡ Ok End
+  pub opened_from_end : header_of rest ≡ Some (record { length = 0; kind = 3 }) → opened width rest place ≡ Ok None
   opened_from_end is = ap (by_header width rest place) is
 
-  claim_not_end : (s : ℕ) → opened_claim width rest place s ≡ Ok End → ⊥
+  claim_not_end : (s : ℕ) → opened_claim width rest place s ≡ Ok None → ⊥
   claim_not_end s is =
       let long = passed (claim_length width s) err_not_ok is in
       let whole = (passed (leb (4 + s) (length rest)) err_not_ok long.1).1 in
       let z : ◌≡◌ {A = ℕ} 0 1 = cc in omega arith
 
-  end_by_header : (o : Option Header) → by_header width rest place o ≡ Ok End → o ≡ Some (record { length = 0; kind = 3 })
+  end_by_header : (o : Option Header) → by_header width rest place o ≡ Ok None → o ≡ Some (record { length = 0; kind = 3 })
   end_by_header None is = absurd (err_not_ok is)
   end_by_header (Some h) is = by_kind (eqb h.kind 18) is
     where
-      by_kind : (b : Bool) → cond b (opened_claim width rest place h.length) (cond (eqb h.kind 3) (cond (eqb h.length 0) (Ok End) (refuse Length place)) (refuse Kind place)) ≡ Ok End → Some h ≡ Some (record { length = 0; kind = 3 })
+      by_kind : (b : Bool) → cond b (opened_claim width rest place h.length) (cond (eqb h.kind 3) (cond (eqb h.length 0) (Ok None) (refuse Length place)) (refuse Kind place)) ≡ Ok None → Some h ≡ Some (record { length = 0; kind = 3 })
       by_kind true is = absurd (claim_not_end h.length is)
       by_kind false is =
           let third = passed (eqb h.kind 3) err_not_ok is in
           let last = passed (eqb h.length 0) err_not_ok third.1 in
           ap (λ n. Some (record { length = n; kind = h.kind })) (eqb-true h.length 0 last.0) ∙ ap (λ n. Some (record { length = 0; kind = n })) (eqb-true h.kind 3 third.0)
 
-  pub end_here : opened width rest place ≡ Ok End → header_of rest ≡ Some (record { length = 0; kind = 3 })
+  pub end_here : opened width rest place ≡ Ok None → header_of rest ≡ Some (record { length = 0; kind = 3 })
   end_here = end_by_header (header_of rest)
 
 module _ (rest : List ℕ) (place : ℕ) where

@@ -1,31 +1,21 @@
 -- One turn of counting the records: what is left gives the answer. Assumes nothing.
-use Rattle.std.proofs.Common.{◌≡◌, ℕ, zero, suc, ◌+◌, ◌-◌, ◌<◌, ◌≤◌, List, [], ◌∷◌, length, take, drop, IsErrAnd, Some, None, Ok, Err, Option, Result, unwrap_or, sym, refl, ap, ◌∙◌, subst, add-zero, arith, length-drop, length-take}
-use Rattle.std.proofs.lemmas.List.{take_rest, drop-drop}
+use Rattle.std.proofs.Common.{◌≡◌, ℕ, zero, suc, ◌+◌, ◌-◌, ◌<◌, ◌≤◌, List, ◌∷◌, length, drop, Some, None, Ok, Err, Option, Result, unwrap_or, sym, refl, ap, ◌∙◌, add-zero, arith}
 use Rattle.refusal.specs.declared.Reason.{Reason}
 use Rattle.refusal.specs.declared.Reason.TheVariants.{RecordCount}
 use Rattle.refusal.specs.declared.Refusal.{Refusal}
 use Rattle.records.specs.Words.{word_at}
-use Rattle.certificate.specs.Reading.{refusal_at, refuse, opened, Fitting, claim_of, atom_fault, checked, ended, after_end, after_claim, by_fault, next_record, claims_from}
+use Rattle.certificate.specs.Reading.{refusal_at, opened, claim_of, atom_fault, checked, ended, after_end, after_claim, by_fault, next_record, claims_from}
 use Rattle.certificate.specs.declared.Claim.{Claim}
-use Rattle.certificate.specs.declared.Opened.{Opened}
-use Rattle.certificate.specs.declared.Opened.TheVariants.{End, ClaimRecord}
-use Rattle.certificate.proofs.Claims.{with_rest, more, claims_by}
+use Rattle.certificate.proofs.Claims.{more, claims_by}
 
 -- the number of claims, where `count` stand before these
 abbrev pub counted_from : {L : Type 0} → ℕ → Result (List (Claim L)) Refusal → Result ℕ Refusal
 counted_from count (Ok cs) = Ok (count + length cs)
 counted_from count (Err e) = Err e
 
--- what the exit of a `?` returns
-pub exits : (r : Result ℕ Refusal) (e : Refusal) (answer : Result ℕ Refusal) → IsErrAnd r (λ y. y ≡ e) → Err e ≡ answer → r ≡ answer
-exits (Ok x) e answer by is = absurd by
-exits (Err y) e answer by is = ap Err by ∙ is
-
--- a claim's record ends inside the file
-pub inside : (w : ℕ) (bytes : List ℕ) (place size : ℕ) (o : Opened) → o ≡ ClaimRecord size → Fitting w (take (length bytes - place) (drop place bytes)) (Ok o) → 4 + size ≤ length bytes - place
-inside w bytes place size o is fits =
-    let whole = (subst (λ x. Fitting w (take (length bytes - place) (drop place bytes)) (Ok x)) is fits).0 in
-    omega (arith, simp (length-take, length-drop) at whole)
+-- the claims that were read are counted, and those that `rest` holds give the answer
+pub record SoFar {L : Type 0} (width : ℕ) (decode : List ℕ → L) (n count last : ℕ) (rest : List ℕ) (place : ℕ) (answer : Result ℕ Refusal) : Type 0 where
+  pub gives : counted_from count (claims_from width decode (n - count) n last rest place) ≡ answer
 
 module _ {L : Type 0} (width : ℕ) (decode : List ℕ → L) where
   counted_more : (count : ℕ) (c : Claim L) (claims : Result (List (Claim L)) Refusal) → counted_from count (after_claim width decode c claims) ≡ counted_from (count + 1) claims
@@ -33,66 +23,50 @@ module _ {L : Type 0} (width : ℕ) (decode : List ℕ → L) where
   counted_more count c (Ok cs) = let same : count + length (c ∷ cs) ≡ (count + 1) + length cs = omega arith in ap Ok same
 
   fault_refused : (place : ℕ) (after : Result (List (Claim L)) Refusal) (e : Refusal) (o : Option Reason) → Err e ≡ checked place o → by_fault width decode place after o ≡ Err e
-  fault_refused place after e None is = absurd (let z : ◌≡◌ {A = ℕ} 0 1 = cc in omega arith)
+  fault_refused place after e None is = cc
   fault_refused place after e (Some why) is = let same : refusal_at why place ≡ e = cc in ap Err same
 
   fault_passed : (place : ℕ) (after : Result (List (Claim L)) Refusal) (u : Unit {0}) (o : Option Reason) → Ok u ≡ checked place o → by_fault width decode place after o ≡ after
   fault_passed place after u None is = refl
-  fault_passed place after u (Some why) is = absurd (let z : ◌≡◌ {A = ℕ} 0 1 = cc in omega arith)
+  fault_passed place after u (Some why) is = cc
 
-  -- w is the width as the code has it
-  module _ (bytes : List ℕ) (n count last place : ℕ) (answer : Result ℕ Refusal)
-      (inv : counted_from count (claims_from width decode (n - count) n last (drop place bytes) place) ≡ answer)
-      (w : ℕ) (sized : w ≡ width) where
-    -- what is left of the file, as a slice has it
-    abbrev left_of : List ℕ
-    left_of = take (length bytes - place) (drop place bytes)
+-- w is the width as the code has it
+module _ {L : Type 0} {width : ℕ} {decode : List ℕ → L} {n count last : ℕ} {rest : List ℕ} {place : ℕ} {answer : Result ℕ Refusal} (so_far : SoFar width decode n count last rest place answer) {w : ℕ} (sized : w ≡ width) where
+  -- the answer, by the record that stands here
+  by_record : (room : ℕ) → n - count ≡ room → (o : Result (Option ℕ) Refusal) → o ≡ opened w rest place
+      → counted_from count (next_record width decode n last rest place (more width decode n last rest place room) o) ≡ answer
+  by_record room is o here =
+      ap (counted_from count) (sym (claims_by width decode n last rest place room o (sym (here ∙ ap (λ v. opened v rest place) sized))))
+      ∙ ap (λ m. counted_from count (claims_from width decode m n last rest place)) (sym is)
+      ∙ so_far.gives
 
-    -- the claims from here on, by the record that stands here
-    by_record : (room : ℕ) (o : Result Opened Refusal) → o ≡ opened w left_of place
-        → claims_from width decode room n last left_of place ≡ next_record width decode n last left_of place (more width decode n last left_of place room) o
-    by_record room o is = claims_by width decode n last left_of place room o (sym (is ∙ ap (λ v. opened v left_of place) sized))
+  pub turn_refused : (e : Refusal) → Err e ≡ opened w rest place → Err e ≡ answer
+  turn_refused e is = by_record (n - count) refl (Err e) is
 
-    given_answer : (x : Result (List (Claim L)) Refusal) → claims_from width decode (n - count) n last left_of place ≡ x → counted_from count x ≡ answer
-    given_answer x is = ap (counted_from count) (sym is) ∙ ap (λ t. counted_from count (claims_from width decode (n - count) n last t place)) (take_rest bytes place) ∙ inv
+  pub turn_end_refused : (e : Refusal) → Ok None ≡ opened w rest place → Err e ≡ ended rest place → Err e ≡ answer
+  turn_end_refused e is bad = ap (λ r. counted_from count (after_end width decode r)) bad ∙ by_record (n - count) refl (Ok None) is
 
-    pub turn_refused : (e : Refusal) → Err e ≡ opened w left_of place → Err e ≡ answer
-    turn_refused e is = given_answer (Err e) (by_record (n - count) (Err e) is)
+  pub turn_end : (u : Unit {0}) → Ok None ≡ opened w rest place → Ok u ≡ ended rest place → Ok count ≡ answer
+  turn_end u is good = ap Ok (sym (add-zero count)) ∙ ap (λ r. counted_from count (after_end width decode r)) good ∙ by_record (n - count) refl (Ok None) is
 
-    pub turn_end_refused : (e : Refusal) → Ok End ≡ opened w left_of place → Err e ≡ ended left_of place → Err e ≡ answer
-    turn_end_refused e is bad = given_answer (Err e) (by_record (n - count) (Ok End) is ∙ ap (after_end width decode) (sym bad))
+  -- `atom` is the atom of the claim that stands here
+  module _ (size : ℕ) (is : Ok (Some size) ≡ opened w rest place) (atom : ℕ) (atom_is : atom ≡ unwrap_or (word_at rest 4) 0) where
+    by_claim : (room : ℕ) → n - count ≡ room → counted_from count (by_fault width decode place (more width decode n last rest place room size) (atom_fault n last atom)) ≡ answer
+    by_claim room left = ap (λ a. counted_from count (by_fault width decode place (more width decode n last rest place room size) (atom_fault n last a))) atom_is ∙ by_record room left (Ok (Some size)) is
 
-    pub turn_end : (u : Unit {0}) → Ok End ≡ opened w left_of place → Ok u ≡ ended left_of place → Ok count ≡ answer
-    turn_end u is good = ap Ok (sym (add-zero count)) ∙ given_answer (Ok []) (by_record (n - count) (Ok End) is ∙ ap (after_end width decode) (sym good))
+    pub turn_fault : (e : Refusal) → Err e ≡ checked place (atom_fault n last atom) → Err e ≡ answer
+    turn_fault e bad = ap (counted_from count) (sym (fault_refused width decode place (more width decode n last rest place (n - count) size) e (atom_fault n last atom) bad)) ∙ by_claim (n - count) refl
 
-    -- `atom` is the atom of the claim that stands here
-    module _ (size : ℕ) (is : Ok (ClaimRecord size) ≡ opened w left_of place) (atom : ℕ) (atom_is : atom ≡ unwrap_or (word_at left_of 4) 0) where
-      stepped : (m : ℕ) → n - count ≡ m → claims_from width decode (n - count) n last left_of place ≡ by_fault width decode place (more width decode n last left_of place m size) (atom_fault n last atom)
-      stepped m room =
-          ap (λ m. claims_from width decode m n last left_of place) room
-          ∙ by_record m (Ok (ClaimRecord size)) is
-          ∙ ap (λ a. by_fault width decode place (more width decode n last left_of place m size) (atom_fault n last a)) (sym atom_is)
+    module _ (u : Unit {0}) (good : Ok u ≡ checked place (atom_fault n last atom)) where
+      by_passed : (room : ℕ) → n - count ≡ room → counted_from count (more width decode n last rest place room size) ≡ answer
+      by_passed room left = ap (counted_from count) (sym (fault_passed width decode place (more width decode n last rest place room size) u (atom_fault n last atom) good)) ∙ by_claim room left
 
-      pub turn_fault : (e : Refusal) → Err e ≡ checked place (atom_fault n last atom) → Err e ≡ answer
-      turn_fault e bad = given_answer (Err e) (stepped (n - count) refl ∙ fault_refused place (more width decode n last left_of place (n - count) size) e (atom_fault n last atom) bad)
+      pub turn_full : n ≤ count → Err (refusal_at RecordCount place) ≡ answer
+      turn_full full = by_passed zero (omega arith)
 
-      module _ (u : Unit {0}) (good : Ok u ≡ checked place (atom_fault n last atom)) where
-        pub turn_full : n ≤ count → Err (refusal_at RecordCount place) ≡ answer
-        turn_full full =
-            let none : n - count ≡ zero = omega arith in
-            given_answer (refuse RecordCount place) (stepped zero none ∙ fault_passed place (refuse RecordCount place) u (atom_fault n last atom) good)
-
-        pub turn_claim : count < n → (s : ℕ) → s ≡ size
-            → counted_from (count + 1) (claims_from width decode (n - (count + 1)) n atom (drop (place + (4 + s)) bytes) (place + (4 + s))) ≡ answer
-        turn_claim room s s_is =
-            let one : n - count ≡ suc (n - (count + 1)) = omega arith in
-            let rest : ℕ → List ℕ → Result (List (Claim L)) Refusal = λ a t. claims_from width decode (n - (count + 1)) n a t (place + (4 + size)) in
-            let claim = claim_of width decode left_of size in
-            let beyond : drop (4 + size) left_of ≡ drop (place + (4 + size)) bytes = ap (drop (4 + size)) (take_rest bytes place) ∙ drop-drop (4 + size) place bytes in
-            let passed = stepped (suc (n - (count + 1))) one
-            ∙ fault_passed place (with_rest width decode n last left_of place (n - (count + 1)) size) u (atom_fault n last atom) good
-            ∙ ap (λ t. after_claim width decode claim (rest claim.atom t)) beyond
-            ∙ ap (λ a. after_claim width decode claim (rest a (drop (place + (4 + size)) bytes))) (sym atom_is) in
-            ap (λ z. counted_from (count + 1) (claims_from width decode (n - (count + 1)) n atom (drop (place + (4 + z)) bytes) (place + (4 + z)))) s_is
-            ∙ sym (counted_more count claim (rest atom (drop (place + (4 + size)) bytes)))
-            ∙ given_answer (after_claim width decode claim (rest atom (drop (place + (4 + size)) bytes))) passed
+      pub turn_claim : count < n → SoFar width decode n (count + 1) atom (drop (4 + size) rest) (place + (4 + size)) answer
+      turn_claim room = record {
+        gives = ap (λ a. counted_from (count + 1) (claims_from width decode (n - (count + 1)) n a (drop (4 + size) rest) (place + (4 + size)))) atom_is
+            ∙ sym (counted_more width decode count (claim_of width decode rest size) (claims_from width decode (n - (count + 1)) n (claim_of width decode rest size).atom (drop (4 + size) rest) (place + (4 + size))))
+            ∙ by_passed (suc (n - (count + 1))) (omega arith);
+      }

@@ -1,9 +1,7 @@
 -- The certificate file, field by field, and the claims that have one. Assumes nothing.
-use Rattle.std.specs.Prelude.{ℕ, ◌≤◌, List, [], ◌∷◌, ◌++◌, length}
+use Rattle.std.specs.Prelude.{ℕ, ◌≤◌, List, [], ◌∷◌, ◌++◌, length, Some, None, Option}
 use Rattle.std.specs.List.{flat_map}
 use Rattle.records.specs.Words.{two_bytes, record_bytes, word_bytes}
-use Rattle.levels.specs.declared.table.Entry.{Entry}
-use Rattle.levels.specs.declared.table.Entry.TheVariants.{Empty, Holds}
 use Rattle.certificate.specs.Claims.{LawfulClaims}
 use Rattle.certificate.specs.declared.Claim.{Claim}
 
@@ -17,9 +15,9 @@ end_bytes = record_bytes 3 []
 
 module _ {L : Type 0} (encode : L → List ℕ) where
   -- the bytes of a level, or nothing
-  abbrev pub level_bytes : Entry L → List ℕ
-  level_bytes Empty = []
-  level_bytes (Holds x) = encode x
+  abbrev pub level_bytes : Option L → List ℕ
+  level_bytes None = []
+  level_bytes (Some x) = encode x
 
   -- kind 18: the atom, then its level or nothing
   abbrev pub claim_bytes : Claim L → List ℕ

@@ -6,18 +6,15 @@ use Rattle.refusal.specs.declared.Reason.{Reason}
 use Rattle.refusal.specs.declared.Reason.TheVariants.{Cut, Kind, Length, Limit, Atom, Order, Trailing, LevelKind, AtomCount, RecordCount}
 use Rattle.refusal.specs.declared.Layer.TheVariants.{Certificate}
 use Rattle.refusal.specs.declared.Refusal.{Refusal}
+use Rattle.refusal.specs.Refused.{refused}
 use Rattle.records.specs.Words.{header_of, word_at}
 use Rattle.records.specs.declared.Header.{Header}
 use Rattle.rules.specs.Program.{within}
-use Rattle.levels.specs.declared.table.Entry.{Entry}
-use Rattle.levels.specs.declared.table.Entry.TheVariants.{Empty, Holds}
 use Rattle.certificate.specs.declared.Claim.{Claim}
 use Rattle.certificate.specs.declared.Step.{Step}
-use Rattle.certificate.specs.declared.Opened.{Opened}
-use Rattle.certificate.specs.declared.Opened.TheVariants.{End, ClaimRecord}
 
 abbrev pub refusal_at : Reason → ℕ → Refusal
-refusal_at why place = record { reason = why; layer = Certificate; place = place }
+refusal_at why place = refused Certificate why place
 
 abbrev pub refuse : {X : Type 0} → Reason → ℕ → Result X Refusal
 refuse why place = Err (refusal_at why place)
@@ -44,22 +41,22 @@ stated_kind n bytes = cond (nat_le (length bytes) 65000) (by_head_header n bytes
 abbrev pub claim_length : ℕ → ℕ → Bool
 claim_length width size = size == 2 || size == 2 + width
 
-abbrev pub opened_claim : ℕ → List ℕ → ℕ → ℕ → Result Opened Refusal
-opened_claim width rest place size = cond (claim_length width size) (cond (nat_le (4 + size) (length rest)) (Ok (ClaimRecord size)) (refuse Cut place)) (refuse Length place)
+abbrev pub opened_claim : ℕ → List ℕ → ℕ → ℕ → Result (Option ℕ) Refusal
+opened_claim width rest place size = cond (claim_length width size) (cond (nat_le (4 + size) (length rest)) (Ok (Some size)) (refuse Cut place)) (refuse Length place)
 
-abbrev pub by_header : ℕ → List ℕ → ℕ → Option Header → Result Opened Refusal
+abbrev pub by_header : ℕ → List ℕ → ℕ → Option Header → Result (Option ℕ) Refusal
 by_header width rest place None = refuse Cut place
-by_header width rest place (Some h) = cond (h.kind == 18) (opened_claim width rest place h.length) (cond (h.kind == 3) (cond (h.length == 0) (Ok End) (refuse Length place)) (refuse Kind place))
+by_header width rest place (Some h) = cond (h.kind == 18) (opened_claim width rest place h.length) (cond (h.kind == 3) (cond (h.length == 0) (Ok None) (refuse Length place)) (refuse Kind place))
 
 -- which record stands here: whether it is cut, its kind, its length, its contents
-abbrev pub opened : ℕ → List ℕ → ℕ → Result Opened Refusal
+abbrev pub opened : ℕ → List ℕ → ℕ → Result (Option ℕ) Refusal
 opened width rest place = by_header width rest place (header_of rest)
 
 -- what is known of a record that stands here
-abbrev pub Fitting : ℕ → List ℕ → Result Opened Refusal → Type 0
+abbrev pub Fitting : ℕ → List ℕ → Result (Option ℕ) Refusal → Type 0
 Fitting width rest (Err e) = Unit {0}
-Fitting width rest (Ok End) = 4 ≤ length rest
-Fitting width rest (Ok (ClaimRecord size)) = (4 + size ≤ length rest) × (claim_length width size ≡ true) × (2 ≤ size)
+Fitting width rest (Ok None) = 4 ≤ length rest
+Fitting width rest (Ok (Some size)) = (4 + size ≤ length rest) × (claim_length width size ≡ true) × (2 ≤ size)
 
 -- the atom of a claim is one of 1 to n, and above the last one
 abbrev pub atom_fault : ℕ → ℕ → ℕ → Option Reason
@@ -76,18 +73,18 @@ ended rest place = cond (length rest == 4) (Ok tt) (refuse Trailing (place + 4))
 
 module _ {L : Type 0} (width : ℕ) (decode : List ℕ → L) where
   -- the level in a claim of `size` bytes
-  abbrev pub level_in : List ℕ → ℕ → Entry L
-  level_in rest size = cond (size == 2) Empty (Holds (decode (between 6 (4 + size) rest)))
+  abbrev pub level_in : List ℕ → ℕ → Option L
+  level_in rest size = cond (size == 2) None (Some (decode (between 6 (4 + size) rest)))
 
   -- the claim in a record of `size` bytes
   abbrev pub claim_of : List ℕ → ℕ → Claim L
   claim_of rest size = record { atom = unwrap_or (word_at rest 4) 0; level = level_in rest size }
 
   -- the claim in a record that begins at a place, and where the next record begins
-  abbrev pub step_at : List ℕ → ℕ → Result Opened Refusal → Option (Step L)
+  abbrev pub step_at : List ℕ → ℕ → Result (Option ℕ) Refusal → Option (Step L)
   step_at bytes place (Err e) = None
-  step_at bytes place (Ok End) = None
-  step_at bytes place (Ok (ClaimRecord size)) = Some (record { claim = claim_of (drop place bytes) size; next = place + (4 + size) })
+  step_at bytes place (Ok None) = None
+  step_at bytes place (Ok (Some size)) = Some (record { claim = claim_of (drop place bytes) size; next = place + (4 + size) })
 
   -- the claim at a place, or none where no claim's record stands
   abbrev pub claim_at : List ℕ → ℕ → Option (Step L)
@@ -107,10 +104,10 @@ module _ {L : Type 0} (width : ℕ) (decode : List ℕ → L) where
   by_fault place more None = more
 
   -- `more` are the claims from one of `size` bytes on
-  abbrev pub next_record : ℕ → ℕ → List ℕ → ℕ → (ℕ → Result (List (Claim L)) Refusal) → Result Opened Refusal → Result (List (Claim L)) Refusal
+  abbrev pub next_record : ℕ → ℕ → List ℕ → ℕ → (ℕ → Result (List (Claim L)) Refusal) → Result (Option ℕ) Refusal → Result (List (Claim L)) Refusal
   next_record n last rest place more (Err e) = Err e
-  next_record n last rest place more (Ok End) = after_end (ended rest place)
-  next_record n last rest place more (Ok (ClaimRecord size)) = by_fault place (more size) (atom_fault n last (claim_of rest size).atom)
+  next_record n last rest place more (Ok None) = after_end (ended rest place)
+  next_record n last rest place more (Ok (Some size)) = by_fault place (more size) (atom_fault n last (claim_of rest size).atom)
 
   -- the claims from here on, over n atoms, where `last` is the last atom before and `room` more claims are allowed
   unfoldable pub claims_from : (room : ℕ) → ℕ → ℕ → List ℕ → ℕ → Result (List (Claim L)) Refusal

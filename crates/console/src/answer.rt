@@ -7,9 +7,9 @@ ghost use Rattle.console.specs.Answer.{judged_claims, by_program, answer_for};
 use certificate::read_kind;
 use levels::order::StoredLevel;
 use levels::table::{Entry, LevelTable};
+use orders::kind::LevelKind;
 use orders::numbers::Number;
 use orders::routes::Route;
-use program::reader::check;
 use program_file::file::ProgramFile;
 use refusal::{Layer, Reason, Refusal};
 use rules::RuleSource;
@@ -24,8 +24,7 @@ pub fn answer(program: &[u8], certificate: &[u8]) -> Result<Verdict, Refusal>
     ensures value { result ≡ answer_for program.now certificate.now }
     ensures accepted_is_stable { AcceptsOnlyStableFiles program.now certificate.now result }
 {
-    let index = check(program)?;
-    let file = ProgramFile::over(program, index);
+    let file = ProgramFile::read(program)?;
     answer_over(&file, certificate)
 }
 
@@ -34,20 +33,17 @@ pub fn answer_over<S: RuleSource>(source: &S, certificate: &[u8]) -> Result<Verd
     ensures value { result ≡ by_program certificate.now (Ok (S.meaning source.now)) }
 {
     let mut marks = [0u8; MAX_ATOMS];
-    match read_kind(certificate, source.atoms())? {
-        1 => {
-            let mut entries: [Entry<Number>; MAX_ATOMS] = [Entry::Empty; MAX_ATOMS];
+    let stated = read_kind(certificate, source.atoms())?;
+    match LevelKind::try_from(stated) {
+        Ok(LevelKind::Numbers) => {
+            let mut entries: [Entry<Number>; MAX_ATOMS] = [None; MAX_ATOMS];
             judge_within::<S, Number>(source, certificate, &mut marks, &mut entries)
         }
-        2 => {
-            let mut entries: [Entry<Route>; MAX_ATOMS] = [Entry::Empty; MAX_ATOMS];
+        Ok(LevelKind::Routes) => {
+            let mut entries: [Entry<Route>; MAX_ATOMS] = [None; MAX_ATOMS];
             judge_within::<S, Route>(source, certificate, &mut marks, &mut entries)
         }
-        _ => Err(Refusal {
-            reason: Reason::LevelKind,
-            layer: Layer::Certificate,
-            place: 0,
-        }),
+        Err(_) => Err(Layer::Certificate.refuse(Reason::LevelKind, 0)),
     }
 }
 
@@ -60,7 +56,7 @@ fn judge_within<S: RuleSource, L: StoredLevel>(
 ) -> Result<Verdict, Refusal>
     requires marks { length marks.old ≡ 4096 }
     requires entries { length entries.old ≡ 4096 }
-    ensures value { result ≡ judged_claims L.Level.below (S.meaning source.now) (claims_in L.width L.decode (S.meaning source.now).atoms L.kind certificate.now) }
+    ensures value { result ≡ judged_claims L.Level.below (S.meaning source.now) (claims_in L.WIDTH L.decode (S.meaning source.now).atoms L.KIND certificate.now) }
 {
     let n = usize::from(source.atoms());
     judge_in::<S, L>(source, certificate, &mut marks[0..n], &mut entries[0..n])
@@ -75,7 +71,7 @@ fn judge_in<S: RuleSource, L: StoredLevel>(
 ) -> Result<Verdict, Refusal>
     requires marks { length marks.old ≡ (S.meaning source.now).atoms }
     requires entries { length entries.old ≡ (S.meaning source.now).atoms }
-    ensures value { result ≡ judged_claims L.Level.below (S.meaning source.now) (claims_in L.width L.decode (S.meaning source.now).atoms L.kind certificate.now) }
+    ensures value { result ≡ judged_claims L.Level.below (S.meaning source.now) (claims_in L.WIDTH L.decode (S.meaning source.now).atoms L.KIND certificate.now) }
 {
     let mut levels = LevelTable::over(entries);
     can_make_from(source, marks, &levels, certificate)?;

@@ -22,16 +22,7 @@ pub fn write_line(heap: Global, answer: Result<Verdict, Refusal>) -> Result<Stri
     ensures value { IfOk result (λ text. string_bytes text ≡ line_of answer) }
 {
     match answer {
-        Ok(verdict) => {
-            let word = verdict.word();
-            let number = verdict.number();
-            format!(in heap; "{word} {number}\n")
-        }
-        Err(refusal) => {
-            let letter = refusal.layer.letter();
-            let number = refusal.reason.number();
-            let place = refusal.place;
-            format!(in heap; "refused {letter} {number} {place}\n")
-        }
+        Ok(verdict) => format!(in heap; "{verdict}\n"),
+        Err(refusal) => format!(in heap; "{refusal}\n"),
     }
 }

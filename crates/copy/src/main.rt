@@ -5,7 +5,6 @@
 use console::line::write_line;
 use files::read_front;
 use inputs::Inputs;
-use program::reader::check;
 use program_file::file::ProgramFile;
 use records::MAX_BYTES;
 use refusal::Refusal;
@@ -15,8 +14,8 @@ use writer::write;
 
 fn main(rt: HostRuntime) -> io::Result<()> {
     let bytes = read_front(&rt, "program.bin")?;
-    match check(&bytes) {
-        Ok(index) => copy(&rt, &bytes, ProgramFile::over(&bytes, index)),
+    match ProgramFile::read(&bytes) {
+        Ok(file) => copy(&rt, &bytes, file),
         Err(refusal) => print_refusal(&rt, "program.bin", refusal),
     }
 }
@@ -84,8 +83,8 @@ fn write_copy<S: RuleSource>(rt: &HostRuntime, source: &S) -> io::Result<bool> {
 // Reads the copy again, and compares it with the bytes of the program.
 fn read_copy(rt: &HostRuntime, program: &[u8]) -> io::Result<()> {
     let bytes = read_front(rt, "copy.bin")?;
-    match check(&bytes) {
-        Ok(index) => print_counts(rt, "copy.bin", &ProgramFile::over(&bytes, index))?,
+    match ProgramFile::read(&bytes) {
+        Ok(file) => print_counts(rt, "copy.bin", &file)?,
         Err(refusal) => print_refusal(rt, "copy.bin", refusal)?,
     }
     if bytes.as_slice() == program {

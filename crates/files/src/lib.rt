@@ -6,7 +6,7 @@ ghost use Rattle.std.specs.Prelude.{◌≤◌, length, IfOk, vec_len};
 use records::MAX_BYTES;
 use std::alloc::AllocError;
 use std::fs::File;
-use std::io::Read;
+use std::io::{self, Read};
 
 // One byte more than a file may have, so that a longer one is refused for its size and not read to its end.
 const READ_LIMIT: usize = MAX_BYTES + 1;
@@ -16,31 +16,22 @@ pub fn read_front(rt: &HostRuntime, name: &str) -> Result<Vec<u8>, AllocError>
     ensures bound { IfOk result (λ bytes. vec_len bytes ≤ 65001) }
 {
     let mut buffer = [0u8; READ_LIMIT];
-    let filled = read_into(rt, name, &mut buffer);
-    Vec::from_slice(rt.alloc(), &buffer[0..filled])
+    let filled = read_into(rt, name, &mut buffer).unwrap_or(0);
+    Vec::from_slice(rt.alloc(), &buffer[..filled])
 }
 
-// Opens a file and reads its first bytes; none where it cannot be opened.
-fn read_into(rt: &HostRuntime, name: &str, buffer: &mut [u8]) -> usize
-    ensures bound { result ≤ length buffer.old }
+// Opens a file, reads until the buffer is full or the file ends, and answers how many bytes there are.
+// A loop over `read`: an error of `read_to_end` does not tell a read that fails from memory that runs out.
+fn read_into(rt: &HostRuntime, name: &str, buffer: &mut [u8]) -> io::Result<usize>
+    ensures bound { IfOk result (λ filled. filled ≤ length buffer.old) }
 {
-    match File::open(rt, name) {
-        Ok(mut file) => fill(&mut file, buffer),
-        Err(_) => 0,
-    }
-}
-
-// Reads until the buffer is full or the file ends, and answers how many bytes there are; none where reading fails.
-fn fill(file: &mut File, buffer: &mut [u8]) -> usize
-    ensures bound { result ≤ length buffer.old }
-{
+    let mut file = File::open(rt, name)?;
     let mut filled = 0;
     while filled < buffer.len() {
-        match file.read(&mut buffer[filled..]) {
-            Ok(0) => return filled,
-            Ok(count) => filled += count,
-            Err(_) => return 0,
+        match file.read(&mut buffer[filled..])? {
+            0 => break,
+            count => filled += count,
         }
     }
-    filled
+    Ok(filled)
 }

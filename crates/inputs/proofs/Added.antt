@@ -1,13 +1,13 @@
 -- A program without inputs, and with one input more. Assumes nothing.
-use Rattle.std.proofs.Common.{◌≡◌, ℕ, ◌<◌, ◌≤◌, Bool, true, false, cond, not, ltb, List, [], ◌∷◌, ◌++◌, map, length, take, is_ok, Ok, Err, filter, Result, sym, refl, ap, ◌∙◌, arith, length-append}
+use Rattle.std.proofs.Common.{◌≡◌, ℕ, ◌<◌, ◌≤◌, Bool, true, false, cond, ltb, List, [], ◌∷◌, ◌++◌, map, length, take, Ok, Err, filter, Result, sym, refl, ap, ◌∙◌, arith, length-append}
 use lib.ListN.{length-map}
 use Rattle.std.proofs.lemmas.List.{append-nil, append_assoc, map-append, take_all}
 use Rattle.std.proofs.lemmas.List.Elements.{filter-append}
-use Rattle.std.proofs.lemmas.Bool.{cond-true, cond-false, and_from, not_from_false, both_ways, lt-ltb, le-ltb, ltb-true}
+use Rattle.std.proofs.lemmas.Bool.{cond-true, ltb-true}
 use Rattle.rules.specs.Program.{Rule, Program, Lawful, within}
 use Rattle.rules.specs.Tests.{member}
-use Rattle.refusal.specs.declared.Reason.TheVariants.{Limit, CallAtom}
-use Rattle.inputs.specs.Layer.{fact, facts, with_inputs, with_fact, refusal_at, room_checked, put_answer, is_new, inputs_after, program_after}
+use Rattle.refusal.specs.declared.Reason.TheVariants.{Limit}
+use Rattle.inputs.specs.Layer.{fact, facts, with_inputs, with_fact, refusal_at, room_checked, is_new, program_after}
 use Rattle.inputs.proofs.Asked.{length-with_inputs}
 
 -- a program with other rules
@@ -37,31 +37,15 @@ module _ (p : Program) (inputs : List ℕ) (a : ℕ) where
       ∙ sym (append_assoc rules old (fact a ∷ []))
       ∙ ap (λ whole. whole ++ (fact a ∷ [])) (sym (take_all 16384 (rules ++ old) (omega arith))))
 
-module _ (p : Program) (inputs : List ℕ) where
-  pub room_found : length inputs < 64 → length (with_inputs p inputs).rules < 16384 → room_checked p inputs ≡ Ok tt
-  room_found few short = rw (lt-ltb (length inputs) 64 few, lt-ltb (length (with_inputs p inputs).rules) 16384 short)
-
-  pub no_room_for_rules : length inputs < 64 → 16384 ≤ length (with_inputs p inputs).rules → room_checked p inputs ≡ Err (refusal_at Limit 16384)
-  no_room_for_rules few full = rw (lt-ltb (length inputs) 64 few, le-ltb (length (with_inputs p inputs).rules) 16384 full)
-
 -- where an answer that comes after two tests is Ok, the second test passed
 second_test : {E : Type 0} (first second : Bool) (d e : E) → ◌≡◌ {A = Result (Unit {0}) E} (cond first (cond second (Ok tt) (Err e)) (Err d)) (Ok tt) → second ≡ true
 second_test true true d e is = refl
-second_test true false d e is = absurd (both_ways false refl (ap is_ok is))
-second_test false second d e is = absurd (both_ways false refl (ap is_ok is))
+second_test true false d e is = cc
+second_test false second d e is = cc
 
 module _ (p : Program) (inputs : List ℕ) (a : ℕ) (atom : within p.atoms a ≡ true) (apart : member a inputs ≡ false) (room : room_checked p inputs ≡ Ok tt) where
-  pub put_accepted : put_answer p inputs a ≡ Ok tt
-  put_accepted =
-      cond-true (within p.atoms a) (cond (member a inputs) (Ok tt) (room_checked p inputs)) (Err (refusal_at CallAtom a)) atom
-      ∙ cond-false (member a inputs) (Ok tt) (room_checked p inputs) apart
-      ∙ room
-
   put_is_new : is_new p inputs a ≡ true
-  put_is_new = and_from (is_ok (put_answer p inputs a)) (not (member a inputs)) (ap is_ok put_accepted) (not_from_false (member a inputs) apart)
-
-  pub put_inputs : inputs_after p inputs a ≡ inputs ++ (a ∷ [])
-  put_inputs = cond-true (is_new p inputs a) (inputs ++ (a ∷ [])) inputs put_is_new
+  put_is_new = rw (atom, apart, room)
 
   pub put_listed : with_inputs p (inputs ++ (a ∷ [])) ≡ program_after p inputs a
   put_listed =

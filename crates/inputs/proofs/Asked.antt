@@ -2,7 +2,7 @@
 use Rattle.std.proofs.Common.{◌≡◌, ℕ, zero, suc, ◌+◌, ◌-◌, ◌<◌, ◌≤◌, min, ◌||◌, eqb, ltb, leb, List, [], ◌∷◌, ◌++◌, map, length, take, Some, None, filter, Option, sym, refl, ap, ◌∙◌, ⊎_elim, arith, length-append, length-take}
 use lib.ListN.{length-map}
 use Rattle.std.specs.List.{slice_get}
-use Rattle.std.specs.Option.{option_map}
+use Rattle.std.specs.Option.{option_map, MatchOption}
 use Rattle.std.proofs.iter.runs.Lists.{nth_left, nth_right, slice_get-map}
 use Rattle.std.proofs.lemmas.Option.{slice_get_past}
 use Rattle.std.proofs.lemmas.Bool.{cases_lt, cond-true, cond-false, or_left, or_right, or_from, le-leb, lt-leb, lt-ltb, le-ltb, eq-eqb}
@@ -78,7 +78,7 @@ module _ (p : Program) (inputs : List ℕ) (lawful : Lawful p) (k : ℕ) where
       ∙ ap (option_map fact) (sym (cond-false (leb k n || ltb 16384 k) None (slice_get atoms (k - n - 1)) (or_from (leb k n) (ltb 16384 k) (lt-leb k n past) (le-ltb 16384 k near)))))
       (cases_lt 16384 k)
 
-  pub head_of_rule : (h : ℕ) → Some h ≡ head_at p k → Some h ≡ head_at (with_inputs p inputs) k
+  head_of_rule : (h : ℕ) → Some h ≡ head_at p k → Some h ≡ head_at (with_inputs p inputs) k
   head_of_rule h is =
       ⊎_elim
       (λ past. absurd (some_not_none (is ∙ ap (option_map (λ r. r.head)) (rule_at_past p k past))))
@@ -86,12 +86,17 @@ module _ (p : Program) (inputs : List ℕ) (lawful : Lawful p) (k : ℕ) where
       (cases_lt (length p.rules) k)
 
   -- where there is no rule below, the answer is that of the facts
-  pub head_of_absent : None ≡ head_at p k → fact_at p inputs k ≡ head_at (with_inputs p inputs) k
+  head_of_absent : None ≡ head_at p k → fact_at p inputs k ≡ head_at (with_inputs p inputs) k
   head_of_absent is =
       ⊎_elim
       (λ past. sym (ap (option_map (λ r. r.head)) (rule_is_fact past) ∙ head_of_fact (fact_at p inputs k)))
       (λ there. no_fact there ∙ is ∙ sym (ap (option_map (λ r. r.head)) (rule_stays there)))
       (cases_lt (length p.rules) k)
+
+  -- the answer of the rules below, or that of the facts
+  pub head_of_source : {P : Type 0} (below answer : Option ℕ) → below ≡ head_at p k → (P → answer ≡ fact_at p inputs k) → MatchOption below P (λ h. answer ≡ Some h) → answer ≡ head_at (with_inputs p inputs) k
+  head_of_source None answer is otherwise found = otherwise found ∙ head_of_absent is
+  head_of_source (Some h) answer is otherwise found = found ∙ head_of_rule h is
 
   pub positive_part_stays : (i : ℕ) → positive_at p k i ≡ positive_at (with_inputs p inputs) k i
   positive_part_stays i =

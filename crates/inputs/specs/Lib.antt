@@ -1,3 +1,2 @@
 pub mod Layer
-pub mod Held
 pub mod Lawful

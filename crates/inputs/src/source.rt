@@ -1,6 +1,5 @@
 // The input layer as a rule source.
 ghost use Rattle.std.specs.Prelude.{◌≡◌};
-ghost use Rattle.inputs.specs.Held.{held};
 ghost use Rattle.inputs.specs.Layer.{with_inputs, fact_at};
 ghost use Rattle.inputs.specs.Lawful.{with_inputs_lawful};
 
@@ -9,9 +8,9 @@ use crate::walks::{atom_at, count_atoms};
 use rules::{MAX_RULES, RuleSource};
 
 impl<S: RuleSource> RuleSource for Inputs<S> {
-    ghost meaning = { λ s. with_inputs (S.RuleSource.meaning s.below) (held s.inputs) };
+    ghost meaning = { λ s. with_inputs (S.RuleSource.meaning s.below) s.inputs.items };
 
-    ghost lawful = { λ s. with_inputs_lawful (S.RuleSource.meaning s.below) (held s.inputs) (S.RuleSource.lawful s.below) };
+    ghost lawful = { λ s. with_inputs_lawful (S.RuleSource.meaning s.below) s.inputs.items (S.RuleSource.lawful s.below) };
 
     fn atoms(&self) -> u16 {
         self.below.atoms()
@@ -23,10 +22,7 @@ impl<S: RuleSource> RuleSource for Inputs<S> {
     }
 
     fn head(&self, rule: u16) -> Option<u16> {
-        if let Some(head) = self.below.head(rule) {
-            return Some(head);
-        }
-        self.fact_head(rule)
+        self.below.head(rule).or_else(|| self.fact_head(rule))
     }
 
     // A fact has no body, so the parts are those of the rules below.
@@ -43,7 +39,7 @@ impl<S: RuleSource> RuleSource for Inputs<S> {
 impl<S: RuleSource> Inputs<S> {
     // The head of a rule that is a fact of this layer.
     fn fact_head(&self, rule: u16) -> Option<u16>
-        ensures value { result ≡ fact_at (S.meaning self.now.below) (held self.now.inputs) rule }
+        ensures value { result ≡ fact_at (S.meaning self.now.below) self.now.inputs.items rule }
     {
         let below = self.below.rules();
         if rule <= below || rule > MAX_RULES {

@@ -1,1 +1,2 @@
 pub mod Marks
+pub mod Codes

@@ -1,74 +1,91 @@
 // Mark tables: this crate alone knows what a mark byte means.
 #![tactic(auto)]
 
-ghost use Rattle.std.specs.Prelude.{◌≡◌, length, replicate};
+ghost use Rattle.std.specs.Prelude.{◌≡◌, not, length, replicate, position};
+ghost use Rattle.marks.specs.Codes.{mark_of};
 ghost use Rattle.marks.specs.Marks.{lawful_byte, in_byte, marked, lowest_unlawful, marked_count, with_in};
+
+use tables::{entry, put_entry};
+
+// What a mark says of its atom: out, in, or in and doubted.
+#[derive(Clone, Copy, PartialEq, Eq)]
+enum Mark {
+    Out = 0,
+    In = 1,
+    Doubted = 2,
+}
+
+// A byte that stands for no mark.
+#[derive(Clone, Copy, PartialEq, Eq)]
+struct UnknownMark(u8);
+
+impl TryFrom<u8> for Mark {
+    type Error = UnknownMark;
+
+    ghost try_from_gives = { λ byte r. r ≡ mark_of byte };
+
+    fn try_from(byte: u8) -> Result<Mark, UnknownMark> {
+        match byte {
+            0 => Ok(Mark::Out),
+            1 => Ok(Mark::In),
+            2 => Ok(Mark::Doubted),
+            _ => Err(UnknownMark(byte)),
+        }
+    }
+}
 
 // Is the atom in the marked set?
 pub fn is_marked(marks: &[u8], atom: u16) -> bool
     ensures value { result ≡ marked marks.now atom }
 {
-    if atom == 0 {
-        return false;
-    }
-    match marks.get(usize::from(atom) - 1) {
-        Some(byte) => is_in(*byte),
-        None => false,
-    }
+    entry(marks, atom).is_some_and(is_in)
 }
 
 // The lowest atom whose byte has no meaning.
 pub fn find_unlawful(marks: &[u8]) -> Option<usize>
     ensures value { result ≡ lowest_unlawful marks.now }
 {
-    for (i, byte) in marks.iter().enumerate() {
-        if !is_lawful(*byte) {
-            return Some(i + 1);
-        }
-    }
-    None
+    find_unlawful_byte(marks).map(|place| place + 1)
+}
+
+// The place of the first byte that has no meaning.
+fn find_unlawful_byte(marks: &[u8]) -> Option<usize>
+    ensures value { result ≡ position (λ b. not (lawful_byte b)) marks.now }
+{
+    marks.iter().position(|byte| !is_lawful(*byte))
 }
 
 // How many atoms are marked.
 pub fn count_marked(marks: &[u8]) -> usize
     ensures value { result ≡ marked_count marks.now }
 {
-    let mut count = 0;
-    for byte in marks {
-        if is_in(*byte) {
-            count += 1;
-        }
-    }
-    count
+    marks.iter().filter(|byte| is_in(**byte)).count()
 }
 
 // Puts every atom out.
 pub fn clear(marks: &mut [u8])
     ensures after { marks.new ≡ replicate (length marks.old) 0 }
 {
-    for byte in marks.iter_mut() {
-        *byte = 0;
-    }
+    marks.fill(Mark::Out as u8);
 }
 
 // Puts an atom in; an atom without a byte is passed over.
 pub fn put_in(marks: &mut [u8], atom: u16)
     ensures after { marks.new ≡ with_in marks.old atom }
 {
-    let at = usize::from(atom);
-    if at >= 1 && at <= marks.len() {
-        marks[at - 1] = 1;
-    }
+    put_entry(marks, atom, Mark::In as u8);
 }
 
+// Does the byte have a meaning?
 fn is_lawful(byte: u8) -> bool
     ensures value { result ≡ lawful_byte byte }
 {
-    byte <= 2
+    Mark::try_from(byte).is_ok()
 }
 
+// Does the byte say that its atom is in?
 fn is_in(byte: u8) -> bool
     ensures value { result ≡ in_byte byte }
 {
-    byte == 1 || byte == 2
+    matches!(Mark::try_from(byte), Ok(Mark::In | Mark::Doubted))
 }

@@ -1,4 +1,5 @@
 pub mod Digits
+pub mod Kinds
 pub mod Laws
 pub mod LittleEndian
 pub mod Numbers

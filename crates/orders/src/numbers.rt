@@ -1,19 +1,30 @@
 // Numbers of 32 bits as levels, ordered by size.
+ghost use Rattle.std.specs.Prelude.{◌≡◌};
 ghost use Rattle.orders.specs.Numbers.{less, number, number_rungs, number_width, number_kind, number_bytes, number_from};
 ghost use Rattle.orders.specs.Laws.{number_laws, number_stored};
 
+use crate::kind::LevelKind;
 use levels::order::{Level, StoredLevel};
 
 // A level that is a number; a larger number is a higher level.
-#[derive(Clone, Copy)]
+#[derive(Clone, Copy, PartialEq, Eq, PartialOrd, Ord)]
 pub struct Number {
     pub value: u32,
+}
+
+// A level as a number of 64 bits.
+impl From<Number> for u64 {
+    ghost from_gives = { λ x n. n ≡ x.value };
+
+    fn from(level: Number) -> u64 {
+        u64::from(level.value)
+    }
 }
 
 impl Level for Number {
     ghost below = { less };
 
-    ghost count = { number_rungs };
+    ghost RUNGS = { number_rungs };
 
     ghost rung = { number };
 
@@ -22,26 +33,18 @@ impl Level for Number {
     const RUNGS: u32 = 4_294_967_295;
 
     fn is_below(self, other: Number) -> bool {
-        self.value < other.value
-    }
-
-    fn rung_count() -> u32 {
-        Self::RUNGS
+        self < other
     }
 
     fn rung_at(k: u32) -> Option<Number> {
-        if k == 0 {
-            None
-        } else {
-            Some(Number { value: k })
-        }
+        (1..=Self::RUNGS).contains(&k).then(|| Number { value: k })
     }
 }
 
 impl StoredLevel for Number {
-    ghost width = { number_width };
+    ghost WIDTH = { number_width };
 
-    ghost kind = { number_kind };
+    ghost KIND = { number_kind };
 
     ghost encode = { number_bytes };
 
@@ -51,22 +54,11 @@ impl StoredLevel for Number {
 
     const WIDTH: usize = 4;
 
-    const KIND: u16 = 1;
-
-    fn byte_width() -> usize {
-        Self::WIDTH
-    }
-
-    fn level_kind() -> u16 {
-        Self::KIND
-    }
+    const KIND: u16 = LevelKind::Numbers as u16;
 
     fn from_bytes(bytes: &[u8]) -> Option<Number> {
-        let [a, b, c, d] = bytes else {
-            return None;
-        };
-        Some(Number {
-            value: u32::from_le_bytes([*a, *b, *c, *d]),
+        bytes.as_array::<4>().map(|bytes| Number {
+            value: u32::from_le_bytes(*bytes),
         })
     }
 

@@ -3,18 +3,28 @@ ghost use Rattle.std.specs.Prelude.{◌≡◌, ◌-◌, ◌^◌, ◌≤◌};
 ghost use Rattle.orders.specs.Routes.{inside, route_rung, route_rungs, route_width, route_kind, route_bytes, route_from};
 ghost use Rattle.orders.specs.Laws.{route_laws, route_stored};
 
+use crate::kind::LevelKind;
 use levels::order::{Level, StoredLevel};
 
 // A set of repeaters: bit i says whether repeater i is in it.
-#[derive(Clone, Copy)]
+#[derive(Clone, Copy, PartialEq, Eq)]
 pub struct Route {
     pub repeaters: u64,
+}
+
+// A set as a number, each repeater by its bit.
+impl From<Route> for u64 {
+    ghost from_gives = { λ x n. n ≡ x.repeaters };
+
+    fn from(level: Route) -> u64 {
+        level.repeaters
+    }
 }
 
 impl Level for Route {
     ghost below = { inside };
 
-    ghost count = { route_rungs };
+    ghost RUNGS = { route_rungs };
 
     ghost rung = { route_rung };
 
@@ -23,21 +33,13 @@ impl Level for Route {
     const RUNGS: u32 = 65;
 
     fn is_below(self, other: Route) -> bool {
-        self.repeaters & other.repeaters == self.repeaters && self.repeaters != other.repeaters
-    }
-
-    fn rung_count() -> u32 {
-        Self::RUNGS
+        self.repeaters & other.repeaters == self.repeaters && self != other
     }
 
     fn rung_at(k: u32) -> Option<Route> {
-        if k >= 1 && k <= Self::RUNGS {
-            Some(Route {
-                repeaters: low_bits(k - 1),
-            })
-        } else {
-            None
-        }
+        (1..=Self::RUNGS).contains(&k).then(|| Route {
+            repeaters: low_bits(k - 1),
+        })
     }
 }
 
@@ -50,9 +52,9 @@ fn low_bits(n: u32) -> u64
 }
 
 impl StoredLevel for Route {
-    ghost width = { route_width };
+    ghost WIDTH = { route_width };
 
-    ghost kind = { route_kind };
+    ghost KIND = { route_kind };
 
     ghost encode = { route_bytes };
 
@@ -62,22 +64,11 @@ impl StoredLevel for Route {
 
     const WIDTH: usize = 8;
 
-    const KIND: u16 = 2;
-
-    fn byte_width() -> usize {
-        Self::WIDTH
-    }
-
-    fn level_kind() -> u16 {
-        Self::KIND
-    }
+    const KIND: u16 = LevelKind::Routes as u16;
 
     fn from_bytes(bytes: &[u8]) -> Option<Route> {
-        let [a, b, c, d, e, f, g, h] = bytes else {
-            return None;
-        };
-        Some(Route {
-            repeaters: u64::from_le_bytes([*a, *b, *c, *d, *e, *f, *g, *h]),
+        bytes.as_array::<8>().map(|bytes| Route {
+            repeaters: u64::from_le_bytes(*bytes),
         })
     }
 

@@ -7,13 +7,12 @@ use Rattle.refusal.specs.Results.{err_not_ok, passed}
 use Rattle.records.specs.declared.Header.{Header}
 use Rattle.rules.specs.Program.{Rule, LawfulRule, within, ascending, disjoint}
 use Rattle.rules.specs.Tests.{all}
-use Rattle.program.specs.Reading.{refuse, rule_length, by_count, opened_rule, by_header, opened, known, atoms_fault, ended}
+use Rattle.program.specs.Reading.{rule_record, refuse, rule_length, by_count, opened_rule, by_header, opened, known, atoms_fault, ended}
 use Rattle.program.specs.Here.{RuleHere, end_not_rule}
-use Rattle.program.specs.declared.reader.Opened.TheVariants.{End, RuleRecord}
 
 -- A RULE'S RECORD
 
-pub opened_from_rule : (rest : List ℕ) (place size k : ℕ) → RuleHere rest size k → opened rest place ≡ Ok (RuleRecord size k)
+pub opened_from_rule : (rest : List ℕ) (place size k : ℕ) → RuleHere rest size k → opened rest place ≡ Ok (Some (rule_record size k))
 opened_from_rule rest place size k here =
     let fits : rule_length size ≡ true = and_from (leb 4 size) (leb size 514 && eqb (size % 2) 0) (le-leb 4 size (omega (arith, here.counted)))
     (and_from (leb size 514) (eqb (size % 2) 0) (le-leb size 514 here.short) (eq-eqb (size % 2) 0 here.even)) in
@@ -21,25 +20,25 @@ opened_from_rule rest place size k here =
     ∙ cond-true (rule_length size) (cond (leb (4 + size) (length rest)) (by_count place size (word_at rest 6)) (refuse Cut place)) (refuse Length place) fits
     ∙ cond-true (leb (4 + size) (length rest)) (by_count place size (word_at rest 6)) (refuse Cut place) (le-leb (4 + size) (length rest) here.whole)
     ∙ ap (by_count place size) here.count_word
-    ∙ cond-true (leb (2 * k + 4) size) (Ok (RuleRecord size k)) (refuse Length place) (le-leb (2 * k + 4) size here.counted)
+    ∙ cond-true (leb (2 * k + 4) size) (Ok (Some (rule_record size k))) (refuse Length place) (le-leb (2 * k + 4) size here.counted)
 
 -- THE END'S RECORD
 
 module _ (rest : List ℕ) (place : ℕ) where
-  pub opened_from_end : header_of rest ≡ Some (record { length = 0; kind = 3 }) → opened rest place ≡ Ok End
+  pub opened_from_end : header_of rest ≡ Some (record { length = 0; kind = 3 }) → opened rest place ≡ Ok None
   opened_from_end is = ap (by_header rest place) is
 
-  count_not_end : (size : ℕ) (o : Option ℕ) → by_count place size o ≡ Ok End → ⊥
+  count_not_end : (size : ℕ) (o : Option ℕ) → by_count place size o ≡ Ok None → ⊥
   count_not_end size None is = err_not_ok is
   count_not_end size (Some k) is = end_not_rule size k (sym (passed (leb (2 * k + 4) size) err_not_ok is).1)
 
-  rule_not_end : (size : ℕ) → opened_rule rest place size ≡ Ok End → ⊥
+  rule_not_end : (size : ℕ) → opened_rule rest place size ≡ Ok None → ⊥
   rule_not_end size is =
       let fit = passed (rule_length size) err_not_ok is in
       let whole = passed (leb (4 + size) (length rest)) err_not_ok fit.1 in
       count_not_end size (word_at rest 6) whole.1
 
-  end_by_kind : (h : Header) (b : Bool) → cond b (opened_rule rest place h.length) (cond (eqb h.kind 3) (cond (eqb h.length 0) (Ok End) (refuse Length place)) (refuse Kind place)) ≡ Ok End
+  end_by_kind : (h : Header) (b : Bool) → cond b (opened_rule rest place h.length) (cond (eqb h.kind 3) (cond (eqb h.length 0) (Ok None) (refuse Length place)) (refuse Kind place)) ≡ Ok None
       → Some h ≡ Some (record { length = 0; kind = 3 })
   end_by_kind h true is = absurd (rule_not_end h.length is)
   end_by_kind h false is =
@@ -47,11 +46,11 @@ module _ (rest : List ℕ) (place : ℕ) where
       let size = passed (eqb h.length 0) err_not_ok kind.1 in
       ap (λ n. Some (record { length = n; kind = h.kind })) (eqb-true h.length 0 size.0) ∙ ap (λ n. Some (record { length = 0; kind = n })) (eqb-true h.kind 3 kind.0)
 
-  end_by_header : (o : Option Header) → by_header rest place o ≡ Ok End → o ≡ Some (record { length = 0; kind = 3 })
+  end_by_header : (o : Option Header) → by_header rest place o ≡ Ok None → o ≡ Some (record { length = 0; kind = 3 })
   end_by_header None is = absurd (err_not_ok is)
   end_by_header (Some h) is = end_by_kind h (eqb h.kind 2) is
 
-  pub end_here : opened rest place ≡ Ok End → header_of rest ≡ Some (record { length = 0; kind = 3 })
+  pub end_here : opened rest place ≡ Ok None → header_of rest ≡ Some (record { length = 0; kind = 3 })
   end_here = end_by_header (header_of rest)
 
   module _ (count stated : ℕ) where

@@ -1,5 +1,5 @@
 -- The bytes that hold a program are its encoding, and the encoding is read as the program. Assumes nothing.
-use Rattle.std.proofs.Common.{◌≡◌, ℕ, zero, suc, ◌+◌, ◌<◌, ◌≤◌, ◌&&◌, leb, List, [], ◌∷◌, ◌++◌, length, drop, Some, Ok, sym, refl, ap, ◌∙◌, subst, zero-add, arith}
+use Rattle.std.proofs.Common.{◌≡◌, ℕ, zero, suc, ◌+◌, ◌<◌, ◌≤◌, ◌&&◌, leb, List, [], ◌∷◌, ◌++◌, length, drop, Some, None, Ok, sym, refl, ap, ◌∙◌, subst, zero-add, arith}
 use Rattle.std.specs.List.{flat_map, AllByRecursion}
 use Rattle.std.proofs.lemmas.List.{append_assoc, nil_from_length, length-drop, drop-drop}
 use Rattle.std.proofs.ByRecursion.{All-drop}
@@ -16,7 +16,6 @@ use Rattle.program.specs.Here.{RuleHere, rule_here}
 use Rattle.program.specs.Head.{HeadHere, head_here}
 use Rattle.program.specs.Lawful.{parts_of, parts_sound, program_lawful}
 use Rattle.program.specs.declared.reader.FileHead.{FileHead}
-use Rattle.program.specs.declared.reader.Opened.TheVariants.{End}
 use Rattle.program.proofs.Rules.{rules_end, rules_step}
 use Rattle.program.proofs.Opened.{opened_from_rule, opened_from_end, end_here, ended_from, ended_so, lawful_no_fault}
 use Rattle.program.proofs.Encoded.{rule_words, contents_size, rule_of_bytes, written_here, rule_bytes_read}
@@ -53,7 +52,7 @@ module _ (n stated : ℕ) where
     pub written : rest ≡ flat_map rule_bytes rs ++ end_bytes
     pub counted : count + length rs ≡ stated
 
-  end_read : (count : ℕ) (rest : List ℕ) (place : ℕ) → Bytes rest → opened rest place ≡ Ok End → ended rest place count stated ≡ Ok tt → RulesWritten count rest []
+  end_read : (count : ℕ) (rest : List ℕ) (place : ℕ) → Bytes rest → opened rest place ≡ Ok None → ended rest place count stated ≡ Ok tt → RulesWritten count rest []
   end_read count rest place small at is =
       let last = ended_so rest place count stated is in
       let all = last.0 in

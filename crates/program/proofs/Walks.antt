@@ -1,20 +1,40 @@
--- One turn of a walk over a part. Assumes nothing.
-use Rattle.std.proofs.Common.{◌≡◌, ℕ, ◌<◌, ◌≤◌, Bool, true, ◌&&◌, leb, List, length, get_or, sym, ap, ◌∙◌}
-use Rattle.std.proofs.lemmas.Bool.{lt-ltb, le-leb, and_from}
-use Rattle.records.specs.Words.{word_of, words}
-use Rattle.records.proofs.Words.{tail_of, words_more}
-use Rattle.rules.specs.Program.{within, ascends_above}
+-- Tests of the numbers in a part. Assumes nothing.
+use Rattle.std.proofs.Common.{◌≡◌, ℕ, Bool, true, false, ◌&&◌, ltb, List, [], ◌∷◌, get_or, Some, None, Option, MatchOption, inl, inr, sym, refl, ap, ◌∙◌, subst}
+use Rattle.std.specs.Iterator.{YieldsFirst, YieldsThen}
+use Rattle.std.specs.Iterator.Order.{ActsAsAtTwo, ChecksNeighbours, OrderTurn}
+use Rattle.std.specs.Fn.{CalledAtTwo}
+use Rattle.std.specs.List.{list_all, FoldsTo}
+use Rattle.records.specs.Words.{word_of}
+use Rattle.rules.specs.Program.{ascends_above, ascending}
 use Rattle.rules.specs.Tests.{all}
+use denote.Param.Members.{Mut}
+use denote.Ref.{Bor}
 
 -- the first number that the bytes hold
 abbrev pub here : List ℕ → ℕ
 here xs = word_of (get_or xs 0 0) (get_or xs 1 0)
 
-pub within_from : (n a : ℕ) → 1 ≤ a → a ≤ n → within n a ≡ true
-within_from n a low high = and_from (leb 1 a) (leb a n) (le-leb 1 a low) (le-leb a n high)
+pub list_all-all : {X : Type 0} (test : X → Bool) (xs : List X) → list_all test xs ≡ all test xs
+list_all-all test [] = refl
+list_all-all test (x ∷ xs) = ap (λ b. test x && b) (list_all-all test xs)
 
-pub all_more : (test : ℕ → Bool) (xs : List ℕ) (answer : Bool) → 2 ≤ length xs → test (here xs) ≡ true → all test (words xs) ≡ answer → all test (words (tail_of xs)) ≡ answer
-all_more test xs answer long passes so_far = sym (ap (λ b. b && all test (words (tail_of xs))) passes) ∙ (ap (all test) (sym (words_more xs long)) ∙ so_far)
+-- `is_sorted_by` compares each number with the one before it
+module _ {S F : Type 0} (rest : S → List ℕ) (g : Mut F (Bor ℕ × (Bor ℕ × Unit {0})) Bool) (f : F) (acts : ActsAsAtTwo g f ltb) where
+  after_first : (x : ℕ) (s : S) (xs : List ℕ) (o : Option ℕ) (u : S) (q : F × ℕ) (r : Bool) → YieldsThen (YieldsFirst rest) s xs o u → FoldsTo {P = F × ℕ} (OrderTurn g) (f, x) xs q
+      → MatchOption o (r ≡ true) (λ y. (r ≡ false) × ((h : F) × CalledAtTwo g q.0 q.1 y false h)) → r ≡ ascends_above x (rest s)
+  after_first x s [] None u q r y folds end = end ∙ ap (ascends_above x) (sym (ap rest y.1 ∙ y.2.0))
+  after_first x s [] (Some z) u q r y folds end =
+      let called = subst (λ (p : F × ℕ). CalledAtTwo g p.0 p.1 z false end.1.0) (sym folds) end.1.1 in
+      end.0 ∙ ap (λ b. b && ascends_above z (rest u)) (acts x z false end.1.0 called).1 ∙ ap (ascends_above x) (sym (ap rest y.1 ∙ y.2))
+  after_first x s (z ∷ xs) o u q r y folds end =
+      let next = folds.0 in
+      let did = acts x z true next.0 folds.1.0 in
+      let more = subst (λ (n : ℕ). FoldsTo {P = F × ℕ} (OrderTurn g) (f, n) xs q) folds.1.1 (subst (λ (e : F). FoldsTo {P = F × ℕ} (OrderTurn g) (e, next.1) xs q) did.0 folds.2) in
+      after_first z y.1.0 xs o u q r (y.0, y.1.2, y.2) more end ∙ ap (λ b. b && ascends_above z (rest y.1.0)) did.1 ∙ ap (ascends_above x) (sym y.1.1)
 
-pub ascends_more : (last : ℕ) (xs : List ℕ) (answer : Bool) → 2 ≤ length xs → last < here xs → ascends_above last (words xs) ≡ answer → ascends_above (here xs) (words (tail_of xs)) ≡ answer
-ascends_more last xs answer long above so_far = sym (ap (λ b. b && ascends_above (here xs) (words (tail_of xs))) (lt-ltb last (here xs) above)) ∙ (ap (ascends_above last) (sym (words_more xs long)) ∙ so_far)
+  pub ascending_from : (s : S) (r : Bool) → ChecksNeighbours g (YieldsFirst rest) s f r → r ≡ ascending (rest s)
+  ascending_from s r ran =
+      elim ran [
+        | inl none ↦ none.1 ∙ ap ascending (sym (ap rest none.0.1.1 ∙ none.0.1.2.0))
+        | inr some ↦ after_first some.0 some.5.1.0 some.1 some.2 some.3 some.4 r (some.5.0, some.5.1.2, some.5.2) some.6 some.7 ∙ ap ascending (sym some.5.1.1)
+      ]

@@ -11,10 +11,9 @@ use Rattle.refusal.specs.Results.{err_not_ok, some_not_none, passed}
 use Rattle.records.specs.declared.Header.{Header}
 use Rattle.rules.specs.Program.{LawfulRule, within, ascending, disjoint}
 use Rattle.rules.specs.Tests.{all}
-use Rattle.program.specs.Reading.{refuse, opened, opened_rule, by_header, by_count, rule_length, rule_of, known, atoms_fault}
+use Rattle.program.specs.Reading.{rule_record, refuse, opened, opened_rule, by_header, by_count, rule_length, rule_of, known, atoms_fault}
 use Rattle.program.specs.Index.{rule_size}
-use Rattle.program.specs.declared.reader.Opened.{Opened}
-use Rattle.program.specs.declared.reader.Opened.TheVariants.{End, RuleRecord}
+use Rattle.program.specs.declared.reader.RuleRecord.{RuleRecord}
 
 -- a rule record of `size` bytes with k positive atoms stands at the front
 pub record RuleHere (rest : List ℕ) (size k : ℕ) : Type 0 where
@@ -25,17 +24,18 @@ pub record RuleHere (rest : List ℕ) (size k : ℕ) : Type 0 where
   pub count_word : word_at rest 6 ≡ Some k
   pub counted : 2 * k + 4 ≤ size
 
-pub end_not_rule : (size k : ℕ) → ◌≡◌ {A = Result Opened Refusal} (Ok End) (Ok (RuleRecord size k)) → ⊥
+pub end_not_rule : (size k : ℕ) → ◌≡◌ {A = Result (Option RuleRecord) Refusal} (Ok None) (Ok (Some (rule_record size k))) → ⊥
 end_not_rule size k h = let z : ◌≡◌ {A = ℕ} 0 1 = cc in omega arith
 
 module _ (rest : List ℕ) (place size k : ℕ) where
   by_count_here : (stated : ℕ) → header_of rest ≡ Some (record { length = stated; kind = 2 }) → rule_length stated ≡ true → 4 + stated ≤ length rest
-      → (o : Option ℕ) → word_at rest 6 ≡ o → by_count place stated o ≡ Ok (RuleRecord size k) → RuleHere rest size k
+      → (o : Option ℕ) → word_at rest 6 ≡ o → by_count place stated o ≡ Ok (Some (rule_record size k)) → RuleHere rest size k
   by_count_here stated header fit whole None was h = absurd (err_not_ok h)
   by_count_here stated header fit whole (Some m) was h =
       let got = passed (nat_le (2 * m + 4) stated) err_not_ok h in
-      let same_size : stated ≡ size = cc in
-      let same_count : m ≡ k = cc in
+      let same : rule_record stated m ≡ rule_record size k = cc in
+      let same_size : stated ≡ size = ap (λ (r : RuleRecord). r.size) same in
+      let same_count : m ≡ k = ap (λ (r : RuleRecord). r.positive) same in
       let fits = and_parts (nat_le 4 stated) (nat_le stated 514 && stated % 2 == 0) fit in
       let more = and_parts (nat_le stated 514) (stated % 2 == 0) fits.1 in
       record {
@@ -47,24 +47,24 @@ module _ (rest : List ℕ) (place size k : ℕ) where
         counted = omega (arith, leb-true (2 * m + 4) stated got.0, same_size, same_count);
       }
 
-  opened_rule_here : (stated : ℕ) → header_of rest ≡ Some (record { length = stated; kind = 2 }) → opened_rule rest place stated ≡ Ok (RuleRecord size k) → RuleHere rest size k
+  opened_rule_here : (stated : ℕ) → header_of rest ≡ Some (record { length = stated; kind = 2 }) → opened_rule rest place stated ≡ Ok (Some (rule_record size k)) → RuleHere rest size k
   opened_rule_here stated header h =
       let fit = passed (rule_length stated) err_not_ok h in
       let whole = passed (nat_le (4 + stated) (length rest)) err_not_ok fit.1 in
       by_count_here stated header fit.0 (leb-true (4 + stated) (length rest) whole.0) (word_at rest 6) refl whole.1
 
-  not_rule : (b d : Bool) → cond b (cond d (Ok End) (refuse Length place)) (refuse Kind place) ≢ Ok (RuleRecord size k)
+  not_rule : (b d : Bool) → cond b (cond d (Ok None) (refuse Length place)) (refuse Kind place) ≢ Ok (Some (rule_record size k))
   not_rule true true h = end_not_rule size k h
   not_rule true false h = err_not_ok h
   not_rule false d h = err_not_ok h
 
-  by_header_here : (o : Option Header) → header_of rest ≡ o → by_header rest place o ≡ Ok (RuleRecord size k) → RuleHere rest size k
+  by_header_here : (o : Option Header) → header_of rest ≡ o → by_header rest place o ≡ Ok (Some (rule_record size k)) → RuleHere rest size k
   by_header_here None was h = absurd (err_not_ok h)
   by_header_here (Some header) was h =
       let got = passed (header.kind == 2) (not_rule (header.kind == 3) (header.length == 0)) h in
       opened_rule_here header.length (was ∙ ap (λ n. Some (record { length = header.length; kind = n })) (eqb-true header.kind 2 got.0)) got.1
 
-  pub rule_here : opened rest place ≡ Ok (RuleRecord size k) → RuleHere rest size k
+  pub rule_here : opened rest place ≡ Ok (Some (rule_record size k)) → RuleHere rest size k
   rule_here h = by_header_here (header_of rest) refl h
 
 module _ (rest : List ℕ) (size k : ℕ) (here : RuleHere rest size k) where

@@ -11,8 +11,7 @@ use Rattle.records.specs.declared.Header.{Header}
 use Rattle.rules.specs.Program.{Rule, Program, within, ascending, disjoint}
 use Rattle.rules.specs.Tests.{all}
 use Rattle.program.specs.declared.reader.FileHead.{FileHead}
-use Rattle.program.specs.declared.reader.Opened.{Opened}
-use Rattle.program.specs.declared.reader.Opened.TheVariants.{End, RuleRecord}
+use Rattle.program.specs.declared.reader.RuleRecord.{RuleRecord}
 
 abbrev pub refusal_at : Reason → ℕ → Refusal
 refusal_at why place = record { reason = why; layer = ProgramLayer; place = place }
@@ -37,31 +36,35 @@ file_head bytes = by_head_header bytes (header_of bytes)
 
 -- THE RECORDS AFTER THE HEAD: `rest` is what is left of the file, and begins at `place`
 
+-- what a rule record of `size` bytes with k positive atoms states
+abbrev pub rule_record : ℕ → ℕ → RuleRecord
+rule_record size k = record { size = size; positive = k }
+
 -- a rule record has two numbers at least, and at most 255 atoms besides
 abbrev pub rule_length : ℕ → Bool
 rule_length size = nat_le 4 size && (nat_le size 514 && size % 2 == 0)
 
 -- the record has as many atoms as its positive count says
-abbrev pub by_count : ℕ → ℕ → Option ℕ → Result Opened Refusal
+abbrev pub by_count : ℕ → ℕ → Option ℕ → Result (Option RuleRecord) Refusal
 by_count place size None = refuse Cut place
-by_count place size (Some k) = cond (nat_le (2 * k + 4) size) (Ok (RuleRecord size k)) (refuse Length place)
+by_count place size (Some k) = cond (nat_le (2 * k + 4) size) (Ok (Some (rule_record size k))) (refuse Length place)
 
-abbrev pub opened_rule : List ℕ → ℕ → ℕ → Result Opened Refusal
+abbrev pub opened_rule : List ℕ → ℕ → ℕ → Result (Option RuleRecord) Refusal
 opened_rule rest place size = cond (rule_length size) (cond (nat_le (4 + size) (length rest)) (by_count place size (word_at rest 6)) (refuse Cut place)) (refuse Length place)
 
-abbrev pub by_header : List ℕ → ℕ → Option Header → Result Opened Refusal
+abbrev pub by_header : List ℕ → ℕ → Option Header → Result (Option RuleRecord) Refusal
 by_header rest place None = refuse Cut place
-by_header rest place (Some h) = cond (h.kind == 2) (opened_rule rest place h.length) (cond (h.kind == 3) (cond (h.length == 0) (Ok End) (refuse Length place)) (refuse Kind place))
+by_header rest place (Some h) = cond (h.kind == 2) (opened_rule rest place h.length) (cond (h.kind == 3) (cond (h.length == 0) (Ok None) (refuse Length place)) (refuse Kind place))
 
--- which record stands here: whether it is cut, its kind, its length, its contents, its positive count
-abbrev pub opened : List ℕ → ℕ → Result Opened Refusal
+-- which record stands here, a rule's or, as none, the end's: whether it is cut, its kind, its length, its contents, its positive count
+abbrev pub opened : List ℕ → ℕ → Result (Option RuleRecord) Refusal
 opened rest place = by_header rest place (header_of rest)
 
 -- what is known of a record that stands here
-abbrev pub Fitting : List ℕ → Result Opened Refusal → Type 0
+abbrev pub Fitting : List ℕ → Result (Option RuleRecord) Refusal → Type 0
 Fitting rest (Err e) = Unit {0}
-Fitting rest (Ok End) = 4 ≤ length rest
-Fitting rest (Ok (RuleRecord size k)) = (4 + size ≤ length rest) × (2 * k + 4 ≤ size) × (size % 2 ≡ 0) × (size ≤ 514)
+Fitting rest (Ok None) = 4 ≤ length rest
+Fitting rest (Ok (Some r)) = (4 + r.size ≤ length rest) × (2 * r.positive + 4 ≤ r.size) × (r.size % 2 ≡ 0) × (r.size ≤ 514)
 
 -- the rule in a record of `size` bytes with k positive atoms
 abbrev pub rule_of : List ℕ → ℕ → ℕ → Rule
@@ -102,16 +105,16 @@ by_fault place r more (Some why) = refuse why place
 by_fault place r more None = after_rule r more
 
 -- where no rule has room any more
-abbrev pub last_record : ℕ → List ℕ → ℕ → ℕ → Result Opened Refusal → Result (List Rule) Refusal
+abbrev pub last_record : ℕ → List ℕ → ℕ → ℕ → Result (Option RuleRecord) Refusal → Result (List Rule) Refusal
 last_record stated rest place count (Err e) = Err e
-last_record stated rest place count (Ok End) = after_end (ended rest place count stated)
-last_record stated rest place count (Ok (RuleRecord size k)) = refuse Limit place
+last_record stated rest place count (Ok None) = after_end (ended rest place count stated)
+last_record stated rest place count (Ok (Some r)) = refuse Limit place
 
 -- where a rule has room: `more` are the rules after one of `size` bytes
-abbrev pub next_record : ℕ → ℕ → List ℕ → ℕ → ℕ → (ℕ → Result (List Rule) Refusal) → Result Opened Refusal → Result (List Rule) Refusal
+abbrev pub next_record : ℕ → ℕ → List ℕ → ℕ → ℕ → (ℕ → Result (List Rule) Refusal) → Result (Option RuleRecord) Refusal → Result (List Rule) Refusal
 next_record n stated rest place count more (Err e) = Err e
-next_record n stated rest place count more (Ok End) = after_end (ended rest place count stated)
-next_record n stated rest place count more (Ok (RuleRecord size k)) = by_fault place (rule_of rest size k) (more size) (atoms_fault n (rule_of rest size k))
+next_record n stated rest place count more (Ok None) = after_end (ended rest place count stated)
+next_record n stated rest place count more (Ok (Some r)) = by_fault place (rule_of rest r.size r.positive) (more r.size) (atoms_fault n (rule_of rest r.size r.positive))
 
 -- the rules from here on, of n atoms, where `count` stand before and `room` more are allowed
 unfoldable pub rules_from : (room : ℕ) → ℕ → ℕ → ℕ → List ℕ → ℕ → Result (List Rule) Refusal

@@ -1,15 +1,19 @@
 // Reading a program file: every check in its order, and an index of where the rules begin.
-ghost use Rattle.std.specs.Prelude.{◌≡◌, ℕ, ◌+◌, ◌-◌, ◌*◌, ◌<◌, ◌≤◌, true, length, drop, replicate, if◌then◌else◌, None};
+ghost use Rattle.std.specs.Prelude.{◌≡◌, ℕ, ◌+◌, ◌-◌, ◌*◌, ◌<◌, ◌≤◌, true, length, replicate, if◌then◌else◌, None};
 ghost use Rattle.std.specs.List.{slice_get};
+ghost use Rattle.refusal.specs.declared.Layer.TheVariants.{Program as ProgramLayer};
 ghost use Rattle.records.specs.Words.{words};
 ghost use Rattle.rules.specs.Program.{within, ascending, disjoint};
-ghost use Rattle.program.specs.Reading.{refusal_at, file_head, opened, Fitting, opened_rule, rule_length, atoms_fault, rule_of, ended, checked, rules_from, program_in};
+ghost use Rattle.program.specs.Reading.{file_head, opened, Fitting, opened_rule, rule_length, atoms_fault, rule_of, ended, checked, rules_from, program_in};
 ghost use Rattle.program.specs.Index.{indexed, indexed_from};
 ghost use Rattle.program.specs.Relation.{ReadsExactly};
 
 use crate::parts::{all_within, is_ascending};
-use records::{MAX_BYTES, read_header, read_word, word};
+use records::kind::RecordKind;
+use records::rest::{self, HEAD_SIZE, Reader};
+use records::{read_word, word};
 use refusal::{Layer, Reason, Refusal};
+use tables::entry;
 
 // A file has at most this many atoms and rules.
 
@@ -24,11 +28,11 @@ pub struct FileHead {
     pub rules: u16,
 }
 
-// Which record stands after the head: the end, or a rule with its length and its positive count.
+// What a rule's record states: its length, and its positive count.
 #[derive(Clone, Copy)]
-pub enum Opened {
-    End,
-    RuleRecord(u16, u16),
+pub struct RuleRecord {
+    pub size: u16,
+    pub positive: u16,
 }
 
 // Where the rules of a checked file begin.
@@ -36,6 +40,7 @@ pub enum Opened {
 pub struct Index {
     atoms: u16,
     count: u16,
+    // a fixed table, since a reader allocates nothing, and `Copy` with it, since callers copy an index
     starts: [u16; 8000],
 }
 
@@ -58,126 +63,111 @@ impl Index {
     pub fn start_of(&self, rule: u16) -> Option<u16>
         ensures value { result ≡ (if within self.now.count rule then slice_get self.now.starts (rule - 1) else None) }
     {
-        if rule < 1 || rule > self.count {
+        if rule > self.count {
             return None;
         }
-        match self.starts.get(usize::from(rule) - 1) {
-            Some(start) => Some(*start),
-            None => None,
-        }
+        entry(&self.starts, rule)
     }
 }
+
+// The reader of a program file.
+struct ProgramReader;
+
+impl Reader for ProgramReader {
+    ghost layer = { ProgramLayer };
+
+    fn layer() -> Layer {
+        Layer::Program
+    }
+}
+
+// What is left of a program file.
+type Rest<'a> = rest::Rest<'a, ProgramReader>;
 
 // Checks a program file, and tells where its rules begin.
 pub fn check(bytes: &[u8]) -> Result<Index, Refusal>
     ensures value { result ≡ indexed (program_in bytes.now) }
     ensures exact { ReadsExactly bytes.now }
 {
-    if bytes.len() > MAX_BYTES {
-        return Err(refuse(Reason::Limit, 0));
-    }
-    let head = read_head(bytes)?;
-    read_rules(bytes, head)
-}
-
-fn refuse(reason: Reason, place: usize) -> Refusal
-    ensures value { result ≡ refusal_at reason place }
-{
-    Refusal {
-        reason,
-        layer: Layer::Program,
-        place,
-    }
+    let file = Rest::of(bytes)?;
+    let head = head_of(file)?;
+    read_rules(file.after(HEAD_SIZE), head)
 }
 
 // The head record: cut, kind, length, contents, limits.
-fn read_head(bytes: &[u8]) -> Result<FileHead, Refusal>
-    ensures value { result ≡ file_head bytes.now }
+fn head_of(file: Rest<'_>) -> Result<FileHead, Refusal>
+    requires begins { file.place ≡ 0 }
+    ensures value { result ≡ file_head file.entry.bytes.now }
 {
-    let Some(header) = read_header(bytes) else {
-        return Err(refuse(Reason::Cut, 0));
-    };
-    if header.kind != 1 {
-        return Err(refuse(Reason::Kind, 0));
-    }
-    if header.length != 4 {
-        return Err(refuse(Reason::Length, 0));
-    }
-    let Some(atoms) = read_word(bytes, 4) else {
-        return Err(refuse(Reason::Cut, 0));
-    };
-    let Some(rules) = read_word(bytes, 6) else {
-        return Err(refuse(Reason::Cut, 0));
-    };
+    let (atoms, rules) = file.read_head(RecordKind::ProgramHead)?;
     if atoms > MAX_ATOMS || rules > MAX_RULES {
-        return Err(refuse(Reason::Limit, 0));
+        return Err(file.refuse(Reason::Limit));
     }
     Ok(FileHead { atoms, rules })
 }
 
-// A record after the head: cut, kind, length, contents, positive count.
-fn open_record(rest: &[u8], place: usize) -> Result<Opened, Refusal>
-    ensures value { result ≡ opened rest.now place }
-    ensures fitting { Fitting rest.now result }
+// The rule's record that stands here, or none at the end: cut, kind, length, contents, positive count.
+fn open_record(rest: Rest<'_>) -> Result<Option<RuleRecord>, Refusal>
+    ensures value { result ≡ opened rest.entry.bytes.now rest.entry.place }
+    ensures fitting { Fitting rest.entry.bytes.now result }
 {
-    let Some(header) = read_header(rest) else {
-        return Err(refuse(Reason::Cut, place));
-    };
-    if header.kind == 2 {
-        return open_rule(rest, place, header.length);
+    match rest.open(RecordKind::Rule)? {
+        Some(size) => open_rule(rest, size),
+        None => Ok(None),
     }
-    if header.kind != 3 {
-        return Err(refuse(Reason::Kind, place));
-    }
-    if header.length != 0 {
-        return Err(refuse(Reason::Length, place));
-    }
-    Ok(Opened::End)
 }
 
-fn open_rule(rest: &[u8], place: usize, size: u16) -> Result<Opened, Refusal>
-    ensures value { result ≡ opened_rule rest.now place size }
-    ensures fitting { Fitting rest.now result }
+// The record of a rule, which is `size` long.
+fn open_rule(rest: Rest<'_>, size: u16) -> Result<Option<RuleRecord>, Refusal>
+    ensures value { result ≡ opened_rule rest.entry.bytes.now rest.entry.place size }
+    ensures fitting { Fitting rest.entry.bytes.now result }
 {
     if size < 4 || size > 514 || size % 2 != 0 {
-        return Err(refuse(Reason::Length, place));
+        return Err(rest.refuse(Reason::Length));
     }
-    if rest.len() < 4 + usize::from(size) {
-        return Err(refuse(Reason::Cut, place));
+    if rest.bytes.len() < 4 + usize::from(size) {
+        return Err(rest.refuse(Reason::Cut));
     }
-    let Some(positive) = read_word(rest, 6) else {
-        return Err(refuse(Reason::Cut, place));
-    };
+    let positive = read_word(rest.bytes, 6).ok_or(rest.refuse(Reason::Cut))?;
     if 2 * usize::from(positive) + 4 > usize::from(size) {
-        return Err(refuse(Reason::Length, place));
+        return Err(rest.refuse(Reason::Length));
     }
-    Ok(Opened::RuleRecord(size, positive))
+    Ok(Some(RuleRecord { size, positive }))
 }
 
 // The atoms of a rule record: known, ascending in each part, and in one part only.
-fn check_atoms(rest: &[u8], place: usize, size: u16, positive: u16, n: u16) -> Result<(), Refusal>
-    requires whole { 4 + size ≤ length rest.now }
-    requires counted { 2 * positive + 4 ≤ size }
-    ensures value { result ≡ checked place (atoms_fault n (rule_of rest.now size positive)) }
+fn check_atoms(rest: Rest<'_>, rule: RuleRecord, n: u16) -> Result<(), Refusal>
+    requires whole { 4 + rule.size ≤ length rest.bytes.now }
+    requires counted { 2 * rule.positive + 4 ≤ rule.size }
+    ensures value { result ≡ checked rest.entry.place (atoms_fault n (rule_of rest.entry.bytes.now rule.size rule.positive)) }
 {
-    let middle = 8 + 2 * usize::from(positive);
-    let end = 4 + usize::from(size);
-    let left = &rest[8..middle];
-    let right = &rest[middle..end];
-    let head = read_word(rest, 4).unwrap_or(0);
+    let middle = 8 + 2 * usize::from(rule.positive);
+    let left = &rest.bytes[8..middle];
+    let right = &rest.bytes[middle..4 + usize::from(rule.size)];
+    let head = read_word(rest.bytes, 4).unwrap_or(0);
     if head > n || !all_within(left, n) || !all_within(right, n) {
-        return Err(refuse(Reason::Atom, place));
+        return Err(rest.refuse(Reason::Atom));
     }
     if !is_ascending(left) || !is_ascending(right) {
-        return Err(refuse(Reason::Order, place));
+        return Err(rest.refuse(Reason::Order));
     }
     if !are_disjoint(left, right) {
-        return Err(refuse(Reason::BothParts, place));
+        return Err(rest.refuse(Reason::BothParts));
     }
     Ok(())
 }
 
-// Do the two parts, each ascending, have no atom in common?
+// The end record: as many rules as stated, and nothing after it.
+fn check_end(rest: Rest<'_>, count: u16, stated: u16) -> Result<(), Refusal>
+    ensures value { result ≡ ended rest.entry.bytes.now rest.entry.place count stated }
+{
+    if count != stated {
+        return Err(rest.refuse(Reason::RuleCount));
+    }
+    rest.check_end()
+}
+
+// Do the two parts, each ascending, have no atom in common? A merge: the smaller first atom is passed, which a chain says no plainer.
 fn are_disjoint(left: &[u8], right: &[u8]) -> bool
     requires left { ascending (words left.now) ≡ true }
     requires right { ascending (words right.now) ≡ true }
@@ -205,49 +195,29 @@ fn are_disjoint(left: &[u8], right: &[u8]) -> bool
     }
 }
 
-// The end record: as many rules as stated, and nothing after it.
-fn check_end(rest: &[u8], place: usize, count: u16, stated: u16) -> Result<(), Refusal>
-    requires small { place < 65001 }
-    ensures value { result ≡ ended rest.now place count stated }
-{
-    if count != stated {
-        return Err(refuse(Reason::RuleCount, place));
-    }
-    if rest.len() != 4 {
-        return Err(refuse(Reason::Trailing, place + 4));
-    }
-    Ok(())
-}
-
 // The records after the head, to the end of the file.
-fn read_rules(bytes: &[u8], head: FileHead) -> Result<Index, Refusal>
-    requires begun { 8 ≤ length bytes.now }
-    requires small { length bytes.now ≤ 65000 }
-    ensures value { result ≡ indexed_from head.atoms (replicate 8000 0) 0 8 (rules_from 8000 head.atoms head.rules 0 (drop 8 bytes.now) 8) }
+#[tactic(auto, using(crate::proofs::Rules::turn_refused, crate::proofs::Rules::turn_full, crate::proofs::Rules::turn_end))]
+fn read_rules(records: Rest<'_>, head: FileHead) -> Result<Index, Refusal>
+    requires small { records.place + length records.bytes.now ≤ 65000 }
+    ensures value { result ≡ indexed_from head.atoms (replicate 8000 0) 0 records.entry.place (rules_from 8000 head.atoms head.rules 0 records.entry.bytes.now records.entry.place) }
 {
     let mut starts = [0u16; 8000];
     let mut count = 0u16;
-    let mut place = 8usize;
-    'records: loop {
-        let rest = &bytes[place..];
-        let (size, positive) = match open_record(rest, place)? {
-            Opened::End => {
-                check_end(rest, place, count, head.rules)?;
-                let atoms = head.atoms;
-                return Ok(Index {
-                    atoms,
-                    count,
-                    starts,
-                });
-            }
-            Opened::RuleRecord(size, positive) => (size, positive),
-        };
+    let mut rest = records;
+    'records: while let Some(rule) = open_record(rest)? {
         if count >= MAX_RULES {
-            return Err(refuse(Reason::Limit, place));
+            return Err(rest.refuse(Reason::Limit));
         }
-        check_atoms(rest, place, size, positive, head.atoms)?;
-        starts[usize::from(count)] = place as u16;
+        check_atoms(rest, rule, head.atoms)?;
+        starts[usize::from(count)] = rest.place as u16;
+        // kept by hand: the next turn compares it, it numbers the entry, and no iterator yields records that can be refused
         count += 1;
-        place += 4 + usize::from(size);
+        rest = rest.after(rule.size);
     }
+    check_end(rest, count, head.rules)?;
+    Ok(Index {
+        atoms: head.atoms,
+        count,
+        starts,
+    })
 }

@@ -3,7 +3,7 @@ use Rattle.std.proofs.Common.{◌≡◌, ℕ, zero, suc, ◌+◌, ◌-◌, ◌*�
 use lib.ListN.{length-replicate}
 use Rattle.std.proofs.lemmas.List.{drop-drop}
 use Rattle.std.proofs.lemmas.Option.{slice_get-get_or, slice_get_past}
-use Rattle.std.proofs.lemmas.Bool.{leb-true, leb-false, ne_eqb, and_parts, and_cases, cond-true, cond-false}
+use Rattle.std.proofs.lemmas.Bool.{leb-true, leb-false, le-leb, ne_eqb, and_from, and_parts, and_cases, cond-true, cond-false}
 use Rattle.std.specs.List.{slice_get}
 use Rattle.std.specs.Option.{option_map}
 use Rattle.records.specs.Words.{words, first_word, word_at}
@@ -17,7 +17,6 @@ use Rattle.program.specs.Index.{rule_size, with_starts, index_of}
 use Rattle.program_file.specs.Stored.{stored_head, by_positive, stored_positive, by_negative, stored_negative}
 use Rattle.program.specs.Lawful.{Parts, parts_of, parts_sound}
 use Rattle.program.specs.declared.reader.Index.{Index}
-use Rattle.program.proofs.Walks.{within_from}
 use Rattle.program_file.proofs.Starts.{StandsAt, stands, ok_program}
 
 length_starts : (rules : List Rule) (starts : List ℕ) (k place : ℕ) → length (with_starts starts k place rules) ≡ length starts
@@ -55,7 +54,7 @@ module _ (bytes : List ℕ) (ok : is_ok (program_in bytes) ≡ true) where
 
   inside : (rule : ℕ) → 1 ≤ rule → rule ≤ length the_program.rules → start_in (index_of the_program) rule ≡ Some (get_or the_starts (rule - 1) 0)
   inside rule low high =
-      cond-true (within (length the_program.rules) rule) (slice_get the_starts (rule - 1)) None (within_from (length the_program.rules) rule low high)
+      cond-true (within (length the_program.rules) rule) (slice_get the_starts (rule - 1)) None (and_from (leb 1 rule) (leb rule (length the_program.rules)) (le-leb 1 rule low) (le-leb rule (length the_program.rules) high))
       ∙ slice_get-get_or the_starts (rule - 1) 0 (omega (arith, many_starts, few_rules))
 
   -- a rule past the list is absent, and so is rule 0

@@ -6,7 +6,7 @@ use Rattle.std.specs.List.{slice_get}
 use Rattle.refusal.specs.declared.Refusal.{Refusal}
 use Rattle.refusal.specs.Results.{err_not_ok}
 use Rattle.rules.specs.Program.{Rule, Program}
-use Rattle.program.specs.Reading.{rule_of, rules_from, read_or_empty, atoms_read}
+use Rattle.program.specs.Reading.{rule_of, rules_from, read_or_empty}
 use Rattle.program.specs.Index.{rule_size, with_starts, index_of, indexed}
 use Rattle.program.specs.Turns.{turn_of, none_left, one_more}
 use Rattle.program.specs.Here.{RuleHere, rule_here, size_of_rule}
@@ -16,11 +16,6 @@ use Rattle.program.specs.declared.reader.Index.{Index}
 pub from_indexed : (r : Result Program Refusal) (index : Index) → indexed r ≡ Ok index → (is_ok r ≡ true) × (index ≡ index_of (read_or_empty r))
 from_indexed (Err e) index h = absurd (err_not_ok h)
 from_indexed (Ok p) index h = let same : index ≡ index_of p = cc in (refl, same)
-
--- what was refused has no index, and no atoms
-pub atoms_refused : (r : Result Program Refusal) (e : Refusal) → Err e ≡ indexed r → Err e ≡ atoms_read r
-atoms_refused (Ok p) e is = absurd (err_not_ok is)
-atoms_refused (Err why) e is = let same : e ≡ why = cc in ap Err same
 
 pub ok_program : (r : Result Program Refusal) → is_ok r ≡ true → r ≡ Ok (read_or_empty r)
 ok_program (Ok p) h = refl

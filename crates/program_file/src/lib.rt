@@ -5,7 +5,6 @@ ghost use Rattle.std.specs.Prelude.{◌≡◌};
 ghost use Rattle.program.specs.Reading.{program_in, atoms_read};
 
 use crate::file::ProgramFile;
-use program::reader::check;
 use refusal::Refusal;
 use rules::RuleSource;
 
@@ -16,7 +15,6 @@ pub mod stored;
 pub fn atoms_in(bytes: &[u8]) -> Result<u16, Refusal>
     ensures value { result ≡ atoms_read (program_in bytes.now) }
 {
-    let index = check(bytes)?;
-    let file = ProgramFile::over(bytes, index);
+    let file = ProgramFile::read(bytes)?;
     Ok(file.atoms())
 }

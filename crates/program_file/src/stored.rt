@@ -16,9 +16,7 @@ pub fn positive_at(bytes: &[u8], start: u16, position: u16) -> Option<u16>
     ensures value { result ≡ stored_positive bytes.now start position }
 {
     let start = usize::from(start);
-    let Some(many) = read_word(bytes, start + 6) else {
-        return None;
-    };
+    let many = read_word(bytes, start + 6)?;
     number_in(bytes, start + 8, many, position)
 }
 
@@ -27,12 +25,8 @@ pub fn negative_at(bytes: &[u8], start: u16, position: u16) -> Option<u16>
     ensures value { result ≡ stored_negative bytes.now start position }
 {
     let start = usize::from(start);
-    let Some(size) = read_word(bytes, start) else {
-        return None;
-    };
-    let Some(positive) = read_word(bytes, start + 6) else {
-        return None;
-    };
+    let size = read_word(bytes, start)?;
+    let positive = read_word(bytes, start + 6)?;
     let many = (size.saturating_sub(4) / 2).saturating_sub(positive);
     number_in(
         bytes,

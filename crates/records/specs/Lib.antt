@@ -1,2 +1,4 @@
 pub mod Words
 pub mod Lengths
+pub mod Kinds
+pub mod Reading

@@ -1,8 +1,12 @@
 // Records: a 16-bit length, a 16-bit kind, then that many bytes. Numbers have their low byte first.
 #![tactic(auto)]
 
+pub mod kind;
+pub mod numbers;
+pub mod rest;
+
 ghost use Rattle.std.specs.Prelude.{◌≡◌, ◌+◌, ◌*◌};
-ghost use Rattle.records.specs.Words.{word_of, header_of, first_word, word_at};
+ghost use Rattle.records.specs.Words.{word_of, header_of, word_at};
 
 // A file of records has at most this many bytes.
 pub const MAX_BYTES: usize = 65000;
@@ -18,19 +22,17 @@ pub struct Header {
 pub fn word(low: u8, high: u8) -> u16
     ensures value { result ≡ word_of low high }
 {
-    u16::from(low) + 256 * u16::from(high)
+    u16::from_le_bytes([low, high])
 }
 
 // The header that the bytes begin with, where there are four bytes.
 pub fn read_header(bytes: &[u8]) -> Option<Header>
     ensures value { result ≡ header_of bytes.now }
 {
-    let [a, b, c, d, ..] = bytes else {
-        return None;
-    };
+    let [a, b, c, d] = *bytes.first_chunk::<4>()?;
     Some(Header {
-        length: word(*a, *b),
-        kind: word(*c, *d),
+        length: word(a, b),
+        kind: word(c, d),
     })
 }
 
@@ -38,17 +40,6 @@ pub fn read_header(bytes: &[u8]) -> Option<Header>
 pub fn read_word(bytes: &[u8], place: usize) -> Option<u16>
     ensures value { result ≡ word_at bytes.now place }
 {
-    if place > bytes.len() {
-        return None;
-    }
-    read_first_word(&bytes[place..])
-}
-
-fn read_first_word(bytes: &[u8]) -> Option<u16>
-    ensures value { result ≡ first_word bytes.now }
-{
-    let [low, high, ..] = bytes else {
-        return None;
-    };
-    Some(word(*low, *high))
+    let [low, high] = *bytes.get(place..)?.first_chunk::<2>()?;
+    Some(word(low, high))
 }

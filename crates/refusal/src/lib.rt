@@ -1,15 +1,18 @@
 // What a refusal is: the reason, the layer that refused, and the place.
 #![tactic(auto)]
 
-ghost use Rattle.std.specs.Prelude.{◌≡◌};
+ghost use Rattle.std.specs.Prelude.{◌≡◌, Some};
 ghost use Rattle.refusal.specs.Numbers.{number_of, letter_of};
+ghost use Rattle.refusal.specs.Refused.{refused, refusal_text};
 ghost use Rattle.refusal.specs.Tables.{length_checked};
+
+use std::fmt;
 
 // Why input is refused. docs/REFUSALS.md says when each is given.
 #[derive(Clone, Copy)]
 pub enum Reason {
     // the file ends inside or before a record that is needed
-    Cut,
+    Cut = 1,
     // a record of this kind cannot stand here
     Kind,
     // a record's length, or its positive count, is unfit
@@ -68,26 +71,7 @@ impl Reason {
     pub fn number(self) -> u8
         ensures value { result ≡ number_of self }
     {
-        match self {
-            Reason::Cut => 1,
-            Reason::Kind => 2,
-            Reason::Length => 3,
-            Reason::Limit => 4,
-            Reason::Atom => 5,
-            Reason::Order => 6,
-            Reason::BothParts => 7,
-            Reason::RuleCount => 8,
-            Reason::Trailing => 9,
-            Reason::LevelKind => 10,
-            Reason::AtomCount => 11,
-            Reason::TableLength => 12,
-            Reason::MarkByte => 13,
-            Reason::CallAtom => 14,
-            Reason::Unmarked => 15,
-            Reason::Rounds => 16,
-            Reason::RecordCount => 17,
-            Reason::Output => 18,
-        }
+        self as u8
     }
 }
 
@@ -104,6 +88,29 @@ impl Layer {
             Layer::Writer => "W",
         }
     }
+
+    // This layer's refusal for a reason, at a place.
+    pub fn refuse(self, reason: Reason, place: usize) -> Refusal
+        ensures value { result ≡ refused self reason place }
+    {
+        Refusal {
+            reason,
+            layer: self,
+            place,
+        }
+    }
+}
+
+// A refusal is printed as its layer's letter, its reason's number and its place.
+impl fmt::Display for Refusal {
+    ghost output = { λ r. Some (refusal_text r) };
+
+    fn fmt<W: fmt::Write>(&self, f: &mut fmt::Formatter<W>) -> fmt::Result {
+        let letter = self.layer.letter();
+        let number = self.reason.number();
+        let place = self.place;
+        write!(f, "refused {letter} {number} {place}")
+    }
 }
 
 // Refuses a table that does not have one entry for each of n atoms.
@@ -113,9 +120,5 @@ pub fn check_length(n: u16, entries: usize) -> Result<(), Refusal>
     if entries == usize::from(n) {
         return Ok(());
     }
-    Err(Refusal {
-        reason: Reason::TableLength,
-        layer: Layer::Survey,
-        place: entries,
-    })
+    Err(Layer::Survey.refuse(Reason::TableLength, entries))
 }

@@ -1,5 +1,5 @@
 -- The parts of a rule, as the questions walk over them. Assumes nothing.
-use Rattle.std.proofs.Common.{◌≡◌, ℕ, zero, suc, ◌+◌, ◌-◌, ◌<◌, ◌≤◌, Bool, true, false, cond, eqb, List, [], ◌∷◌, length, get_or, drop, Some, None, Option, unwrap_or, sym, refl, ap, ◌∙◌, arith}
+use Rattle.std.proofs.Common.{◌≡◌, ℕ, zero, suc, ◌+◌, ◌-◌, ◌<◌, ◌≤◌, Bool, true, false, cond, eqb, List, [], ◌∷◌, length, get_or, drop, Some, None, Option, unwrap_or, sym, ap, ◌∙◌, arith}
 use Rattle.std.specs.List.{slice_get, AllByRecursion}
 use Rattle.std.specs.Option.{option_map}
 use Rattle.std.proofs.ByRecursion.{All-from_get_or}
@@ -9,29 +9,11 @@ use Rattle.std.proofs.lemmas.Bool.{cond-false, ne_eqb}
 use Rattle.rules.specs.Tests.{any}
 use Rattle.rules.proofs.Tests.{any_more, any_passes}
 use Rattle.rules.specs.Program.{Rule, Program, Lawful, LawfulRule}
-use Rattle.rules.specs.Questions.{rule_at, in_part, positive_at, positive_part, negative_at, negative_part}
+use Rattle.rules.specs.Questions.{rule_at, positive_part, negative_part}
 
 -- what a list of rules has past its end
 pub no_rule : Rule
 no_rule = record { head = 0; positive = []; negative = [] }
-
-in_part_nth : (part : Option (List ℕ)) (i : ℕ) → in_part part i ≡ slice_get (unwrap_or part []) i
-in_part_nth None i = refl
-in_part_nth (Some part) i = refl
-
--- what a question about a part answers, said of the part
-module _ (p : Program) (k i : ℕ) where
-  positive_at_part : positive_at p k i ≡ slice_get (positive_part p k) i
-  positive_at_part = in_part_nth (option_map (λ r. r.positive) (rule_at p k)) i
-
-  negative_at_part : negative_at p k i ≡ slice_get (negative_part p k) i
-  negative_at_part = in_part_nth (option_map (λ r. r.negative) (rule_at p k)) i
-
-  pub positive_read : (answer : Option ℕ) → answer ≡ positive_at p k i → slice_get (positive_part p k) i ≡ answer
-  positive_read answer e = sym (e ∙ positive_at_part)
-
-  pub negative_read : (answer : Option ℕ) → answer ≡ negative_at p k i → slice_get (negative_part p k) i ≡ answer
-  negative_read answer e = sym (e ∙ negative_at_part)
 
 -- what holds of each rule holds of one that is there
 abbrev pub OfRule : (Rule → Type 0) → Option Rule → Type 0

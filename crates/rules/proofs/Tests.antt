@@ -1,7 +1,7 @@
 -- Lemmas on tests over lists and over the numbers 1 to n. Assumes nothing.
 use Rattle.std.proofs.Common.{◌≡◌, ℕ, zero, suc, ◌+◌, ◌-◌, ◌<◌, ◌≤◌, Bool, true, false, cond, ◌&&◌, ◌||◌, List, [], ◌∷◌, map, length, drop, is_some, Some, None, filter, Option, unwrap_or, sym, refl, ap, ◌∙◌, subst, ⊎_elim, arith}
 use Rattle.std.specs.List.{slice_get, AllByRecursion}
-use Rattle.std.proofs.lemmas.List.{at_drop_all, drop_more}
+use Rattle.std.proofs.lemmas.List.{drop_more}
 use Rattle.std.proofs.lemmas.Option.{slice_get-get_or, slice_get_past}
 use Rattle.std.proofs.lemmas.Bool.{cases_lt, both_ways, and_parts, and_from, or_cases, or_from, cases_Bool, cases_eq, cond-true, cond-false, cond_both}
 use Rattle.rules.specs.Tests.{all, any, first_from, lowest, tally_from, tally}
@@ -71,20 +71,11 @@ module _ {X : Type 0} (test : X → Bool) (xs : List X) (i : ℕ) where
   pub all_more : (x : X) → slice_get xs i ≡ Some x → test x ≡ true → all test (drop i xs) ≡ all test (drop (i + 1) xs)
   all_more x e t = ap (all test) (drop_from_nth xs i x e) ∙ ap (λ b. b && all test (drop (i + 1) xs)) t
 
-  pub all_fails : (x : X) → slice_get xs i ≡ Some x → test x ≡ false → all test (drop i xs) ≡ false
-  all_fails x e t = ap (all test) (drop_from_nth xs i x e) ∙ ap (λ b. b && all test (drop (i + 1) xs)) t
-
-  pub all_ends : slice_get xs i ≡ None → all test (drop i xs) ≡ true
-  all_ends e = at_drop_all (all test) xs i (past_from_nth xs i e)
-
   pub any_more : (x : X) → slice_get xs i ≡ Some x → test x ≡ false → any test (drop i xs) ≡ any test (drop (i + 1) xs)
   any_more x e t = ap (any test) (drop_from_nth xs i x e) ∙ ap (λ b. b || any test (drop (i + 1) xs)) t
 
   pub any_passes : (x : X) → slice_get xs i ≡ Some x → test x ≡ true → any test (drop i xs) ≡ true
   any_passes x e t = ap (any test) (drop_from_nth xs i x e) ∙ ap (λ b. b || any test (drop (i + 1) xs)) t
-
-  pub any_ends : slice_get xs i ≡ None → any test (drop i xs) ≡ false
-  any_ends e = at_drop_all (any test) xs i (past_from_nth xs i e)
 
 module _ (test : ℕ → Bool) where
   first_from_none : (from many : ℕ) → first_from test from many ≡ None → (k : ℕ) → from ≤ k → k < from + many → test k ≡ false

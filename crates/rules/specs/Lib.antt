@@ -1,4 +1,5 @@
 pub mod Tests
 pub mod Program
 pub mod Questions
+pub mod Parts
 pub mod Stable

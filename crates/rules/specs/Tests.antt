@@ -1,15 +1,14 @@
 -- Tests over lists and over the numbers 1 to n. Assumes nothing.
-use Rattle.std.specs.Prelude.{ℕ, zero, suc, ◌+◌, Bool, true, false, cond, ◌&&◌, ◌||◌, List, [], ◌∷◌, Some, None, Option, nat_eq}
+use Rattle.std.specs.Prelude.{ℕ, zero, suc, ◌+◌, Bool, cond, List, Some, None, Option, nat_eq}
+use Rattle.std.specs.List.{list_all, list_any}
 
 -- each element passes
 abbrev pub all : {X : Type 0} → (X → Bool) → List X → Bool
-all test [] = true
-all test (x ∷ xs) = test x && all test xs
+all test xs = list_all test xs
 
 -- some element passes
 abbrev pub any : {X : Type 0} → (X → Bool) → List X → Bool
-any test [] = false
-any test (x ∷ xs) = test x || any test xs
+any test xs = list_any test xs
 
 abbrev pub member : ℕ → List ℕ → Bool
 member a = any (nat_eq a)

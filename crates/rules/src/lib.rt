@@ -5,6 +5,8 @@ ghost use Rattle.std.specs.Prelude.{◌≡◌, length};
 ghost use Rattle.rules.specs.Program.{Program, Lawful};
 ghost use Rattle.rules.specs.Questions.{head_at, positive_at, negative_at};
 
+pub mod part;
+
 // A source has at most this many rules.
 pub const MAX_RULES: u16 = 16384;
 

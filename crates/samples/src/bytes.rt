@@ -1,6 +1,10 @@
 // The bytes of a file, built record by record.
 ghost use Rattle.std.specs.Prelude.{◌≡◌, ◌+◌, ◌*◌, [], length, IfOk, vec_len, OnOk};
 
+use levels::order::StoredLevel;
+use orders::kind::LevelKind;
+use orders::numbers::Number;
+use orders::routes::Route;
 use std::alloc::{AllocError, Global};
 
 // The records of a file as they stand in it, each a list of words: its length, its kind, its contents.
@@ -10,11 +14,7 @@ pub type Records = &'static [&'static [u16]];
 pub type Claim = (u16, Option<u64>);
 
 // Which levels a certificate has.
-#[derive(Clone, Copy)]
-pub enum Order {
-    Numbers,
-    Routes,
-}
+pub type Order = LevelKind;
 
 #[derive(Drop)]
 pub struct FileBytes {
@@ -58,10 +58,7 @@ impl FileBytes {
         claims: &[Claim],
     ) -> Result<FileBytes, AllocError> {
         let mut file = FileBytes::new(heap);
-        match order {
-            Order::Numbers => file.words(&[4, 17, n, 1])?,
-            Order::Routes => file.words(&[4, 17, n, 2])?,
-        }
+        file.words(&[4, 17, n, order as u16])?;
         for (atom, level) in claims {
             file.claim(order, *atom, *level)?;
         }
@@ -150,16 +147,11 @@ impl FileBytes {
         let Some(level) = level else {
             return self.words(&[2, 18, atom]);
         };
-        let [a, b, c, d, e, f, g, h] = level.to_le_bytes();
-        match order {
-            Order::Numbers => {
-                self.words(&[6, 18, atom])?;
-                self.bytes.extend_from_slice(&[a, b, c, d])
-            }
-            Order::Routes => {
-                self.words(&[10, 18, atom])?;
-                self.bytes.extend_from_slice(&[a, b, c, d, e, f, g, h])
-            }
-        }
+        let width = match order {
+            Order::Numbers => Number::WIDTH,
+            Order::Routes => Route::WIDTH,
+        };
+        self.words(&[2 + width as u16, 18, atom])?;
+        self.bytes.extend_from_slice(&level.to_le_bytes()[..width])
     }
 }

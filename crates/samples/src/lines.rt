@@ -26,6 +26,7 @@ pub struct Tried {
 }
 
 // Which of the two files a case gives; the other one is small and lawful.
+// No closure: a caller names its side in one word, and the other file stands in one place.
 #[derive(Clone, Copy)]
 pub enum Side {
     Program,

@@ -1,23 +1,13 @@
 // What a rule source answers, written by asking it.
-use program::reader::check;
 use program_file::file::ProgramFile;
 use rules::RuleSource;
+use rules::part::{Part, atoms_of};
 use samples::lines::print_answer;
 use std::alloc::{AllocError, Global};
 use std::io;
 
-// Which part of a body is asked for.
-#[derive(Clone, Copy)]
-enum Part {
-    Positive,
-    Negative,
-}
-
 // Of a source with more rules, only their number and the last head are written.
 const SHOWN_RULES: u16 = 9;
-
-// A body has at most this many atoms.
-const MAX_BODY: u16 = 255;
 
 // The rules of a source, in one line.
 pub fn print_rules<S: RuleSource>(rt: &HostRuntime, name: &str, source: &S) -> io::Result<()> {
@@ -27,8 +17,8 @@ pub fn print_rules<S: RuleSource>(rt: &HostRuntime, name: &str, source: &S) -> i
 
 // The same for a program file.
 pub fn print_rules_in(rt: &HostRuntime, name: &str, bytes: &[u8]) -> io::Result<()> {
-    match check(bytes) {
-        Ok(index) => print_rules(rt, name, &ProgramFile::over(bytes, index)),
+    match ProgramFile::read(bytes) {
+        Ok(file) => print_rules(rt, name, &file),
         Err(refusal) => print_answer(rt, name, Err(refusal)),
     }
 }
@@ -90,14 +80,11 @@ fn push_part<S: RuleSource>(
     rule: u16,
     part: Part,
 ) -> Result<(), AllocError> {
-    for position in 0..MAX_BODY {
-        let (word, atom) = match part {
-            Part::Positive => ("", source.positive(rule, position)),
-            Part::Negative => ("not ", source.negative(rule, position)),
-        };
-        let Some(atom) = atom else {
-            return Ok(());
-        };
+    let word = match part {
+        Part::Positive => "",
+        Part::Negative => "not ",
+    };
+    for atom in atoms_of(source, rule, part) {
         if !body.is_empty() {
             body.push_str(", ")?;
         }

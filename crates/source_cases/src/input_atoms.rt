@@ -4,7 +4,6 @@ use crate::repeated::Repeated;
 use crate::writing::{print_output, written};
 use console::answer::answer_over;
 use inputs::Inputs;
-use program::reader::check;
 use program_file::file::ProgramFile;
 use refusal::Refusal;
 use rules::RuleSource;
@@ -61,10 +60,10 @@ pub fn print_all(rt: &HostRuntime) -> io::Result<()> {
     for (name, rules, many, last) in FILLED {
         print_filled(rt, name, Repeated { rules: *rules }, *many, last)?;
     }
-    match check(SMALL_PROGRAM) {
-        Ok(index) => {
-            print_layers(rt, ProgramFile::over(SMALL_PROGRAM, index))?;
-            print_verdicts(rt, ProgramFile::over(SMALL_PROGRAM, index))
+    match ProgramFile::read(SMALL_PROGRAM) {
+        Ok(file) => {
+            print_layers(rt, file)?;
+            print_verdicts(rt, file)
         }
         Err(refusal) => print_answer(rt, "small program", Err(refusal)),
     }
@@ -72,9 +71,9 @@ pub fn print_all(rt: &HostRuntime) -> io::Result<()> {
 
 // A layer over a program file, without inputs and after each atom that is put.
 fn print_over(rt: &HostRuntime, name: &str, program: &[u8], atoms: &[u16]) -> io::Result<()> {
-    match check(program) {
-        Ok(index) => {
-            let mut layer = Inputs::over(ProgramFile::over(program, index));
+    match ProgramFile::read(program) {
+        Ok(file) => {
+            let mut layer = Inputs::over(file);
             print_rules(rt, name, &layer)?;
             print_puts(rt, name, &mut layer, atoms)?;
             let last = layer.rules();

@@ -3,7 +3,6 @@ use crate::asking::print_rules_in;
 use crate::writing::{print_digits, print_output, written};
 use files::read_front;
 use inputs::Inputs;
-use program::reader::check;
 use program_file::file::ProgramFile;
 use samples::lines::{print_answer, print_done, print_read};
 use std::{fs, io};
@@ -18,9 +17,9 @@ pub fn print_all(rt: &HostRuntime) -> io::Result<()> {
 
 // Writes a program with the input 2 to a new file, and reads that.
 fn print_written(rt: &HostRuntime, name: &str, program: &[u8]) -> io::Result<()> {
-    match check(program) {
-        Ok(index) => {
-            let mut layer = Inputs::over(ProgramFile::over(program, index));
+    match ProgramFile::read(program) {
+        Ok(file) => {
+            let mut layer = Inputs::over(file);
             print_done(rt, name, "accepted", layer.put(2))?;
             let output = written(rt.alloc(), &layer, 65000)?;
             print_output(rt, name, &output)?;

@@ -5,7 +5,6 @@ use crate::asking::print_rules_in;
 use crate::input_atoms::{BOTH_PARTS, put_first};
 use crate::repeated::Repeated;
 use inputs::Inputs;
-use program::reader::check;
 use program_file::file::ProgramFile;
 use refusal::Refusal;
 use rules::RuleSource;
@@ -118,12 +117,7 @@ pub fn print_output(rt: &HostRuntime, name: &str, output: &Output) -> io::Result
 }
 
 fn are_old(bytes: &[u8]) -> bool {
-    for byte in bytes {
-        if *byte != OLD {
-            return false;
-        }
-    }
-    true
+    bytes.iter().all(|byte| *byte == OLD)
 }
 
 // Each byte as two digits.
@@ -138,14 +132,14 @@ pub fn print_digits(rt: &HostRuntime, name: &str, bytes: &[u8]) -> io::Result<()
 // The small program in an output of as many bytes.
 fn print_small(rt: &HostRuntime, room: usize) -> io::Result<()> {
     let name = format!(in rt.alloc(); "small program, room for {room} bytes")?;
-    let output = written_again(rt.alloc(), SMALL_PROGRAM, room)?;
+    let output = written_from(rt.alloc(), ProgramFile::read(SMALL_PROGRAM), room)?;
     print_output(rt, &name, &output)?;
     print_digits(rt, &name, &output.bytes)
 }
 
 // A program file read and written again.
 fn print_same(rt: &HostRuntime, name: &str, program: &[u8]) -> io::Result<()> {
-    let output = written_again(rt.alloc(), program, 65100)?;
+    let output = written_from(rt.alloc(), ProgramFile::read(program), 65100)?;
     print_output(rt, name, &output)?;
     let how = if output.file() == program {
         "same bytes"
@@ -155,39 +149,26 @@ fn print_same(rt: &HostRuntime, name: &str, program: &[u8]) -> io::Result<()> {
     println!(rt; "{name}: {how}")
 }
 
-// A program file read, and written to an output of as many bytes.
-fn written_again(heap: Global, program: &[u8], room: usize) -> Result<Output, AllocError> {
-    match check(program) {
-        Ok(index) => written(heap, &ProgramFile::over(program, index), room),
-        Err(refusal) => Ok(unwritten(heap, refusal)),
-    }
-}
-
-// The same with its first atoms as inputs over it.
-fn written_with(
+// What was read, written to an output of as many bytes; nothing, where there was no source to write.
+fn written_from<S: RuleSource + Drop>(
     heap: Global,
-    program: &[u8],
-    inputs: u16,
+    source: Result<S, Refusal>,
     room: usize,
 ) -> Result<Output, AllocError> {
-    match check(program) {
-        Ok(index) => {
-            let mut layer = Inputs::over(ProgramFile::over(program, index));
-            match put_first(&mut layer, inputs) {
-                Ok(()) => written(heap, &layer, room),
-                Err(refusal) => Ok(unwritten(heap, refusal)),
-            }
-        }
-        Err(refusal) => Ok(unwritten(heap, refusal)),
+    match source {
+        Ok(source) => written(heap, &source, room),
+        Err(refusal) => Ok(Output {
+            answer: Err(refusal),
+            bytes: Vec::new(heap),
+        }),
     }
 }
 
-// Nothing, where there was no source to write.
-fn unwritten(heap: Global, refusal: Refusal) -> Output {
-    Output {
-        answer: Err(refusal),
-        bytes: Vec::new(heap),
-    }
+// A program file with its first atoms as inputs over it.
+fn with_first(program: &[u8], inputs: u16) -> Result<Inputs<ProgramFile<'_>>, Refusal> {
+    let mut layer = Inputs::over(ProgramFile::read(program)?);
+    put_first(&mut layer, inputs)?;
+    Ok(layer)
 }
 
 // Program files with inputs over them.
@@ -217,7 +198,7 @@ fn print_layer(
     room: usize,
 ) -> io::Result<()> {
     let name = format!(in rt.alloc(); "{name}, {inputs} put")?;
-    let output = written_with(rt.alloc(), program, inputs, room)?;
+    let output = written_from(rt.alloc(), with_first(program, inputs), room)?;
     print_output(rt, &name, &output)
 }
 

@@ -6,8 +6,6 @@ use Rattle.std.proofs.lemmas.Bool.{leb-true, ltb-true, eqb-true, eqb-false, ne_e
 use Rattle.rules.specs.Program.{within, ascends_above, ascending}
 use Rattle.rules.specs.Tests.{all}
 use Rattle.levels.specs.Table.{held, level_of}
-use Rattle.levels.specs.declared.table.Entry.{Entry}
-use Rattle.levels.specs.declared.table.Entry.TheVariants.{Empty, Holds}
 use Rattle.certificate.specs.Claims.{atoms_of}
 use Rattle.certificate.specs.declared.Claim.{Claim}
 use Rattle.survey.specs.Made.{claimed_level}
@@ -29,36 +27,36 @@ module _ {X : Type 0} (y : X) where
   nth_set_other (x ∷ xs) (suc i) zero apart = refl
   nth_set_other (x ∷ xs) (suc i) (suc j) apart = nth_set_other xs i j (λ e. apart (ap suc e))
 
-module _ {L : Type 0} (entries : List (Entry L)) (b : ℕ) where
-  pub length-with_entry : (entry : Entry L) → length (with_entry entries b entry) ≡ length entries
-  length-with_entry Empty = refl
-  length-with_entry (Holds x) = elim (eqb b 0) as (λ t. length (cond t entries (set entries (b - 1) (Holds x))) ≡ length entries) [ true ↦ refl | false ↦ length-set entries (b - 1) (Holds x) ]
+module _ {L : Type 0} (entries : List (Option L)) (b : ℕ) where
+  pub length-with_entry : (entry : Option L) → length (with_entry entries b entry) ≡ length entries
+  length-with_entry None = refl
+  length-with_entry (Some x) = elim (eqb b 0) as (λ t. length (cond t entries (set entries (b - 1) (Some x))) ≡ length entries) [ true ↦ refl | false ↦ length-set entries (b - 1) (Some x) ]
 
-  level_here : (entry : Entry L) → within (length entries) b ≡ true → level_of entries b ≡ None → level_of (with_entry entries b entry) b ≡ held (Some entry)
-  level_here Empty known none = none
-  level_here (Holds x) known none =
+  level_here : (entry : Option L) → within (length entries) b ≡ true → level_of entries b ≡ None → level_of (with_entry entries b entry) b ≡ held (Some entry)
+  level_here None known none = none
+  level_here (Some x) known none =
       let ends = and_parts (leb 1 b) (leb b (length entries)) known in
       let some = leb-true 1 b ends.0 in
       let there = leb-true b (length entries) ends.1 in
       let positive : eqb b 0 ≡ false = ne_eqb b 0 (λ e. omega arith) in
-      rw positive (ap held (nth_set_same (Holds x) entries (b - 1) (omega arith)))
+      rw positive (ap held (nth_set_same (Some x) entries (b - 1) (omega arith)))
 
-  level_apart : (entry : Entry L) (a : ℕ) → (a ≡ b → ⊥) → 1 ≤ b → level_of (with_entry entries b entry) a ≡ level_of entries a
-  level_apart Empty a apart some = refl
-  level_apart (Holds x) zero apart some = refl
-  level_apart (Holds x) (suc a) apart some =
+  level_apart : (entry : Option L) (a : ℕ) → (a ≡ b → ⊥) → 1 ≤ b → level_of (with_entry entries b entry) a ≡ level_of entries a
+  level_apart None a apart some = refl
+  level_apart (Some x) zero apart some = refl
+  level_apart (Some x) (suc a) apart some =
       let positive : eqb b 0 ≡ false = ne_eqb b 0 (λ e. omega arith) in
-      rw positive (ap (λ o. cond (eqb (suc a) 0) None (held o)) (nth_set_other (Holds x) entries (b - 1) (suc a - 1) (λ e. apart (omega arith))))
+      rw positive (ap (λ o. cond (eqb (suc a) 0) None (held o)) (nth_set_other (Some x) entries (b - 1) (suc a - 1) (λ e. apart (omega arith))))
 
 -- ALL ATOMS
 
 module _ {L : Type 0} where
-  pub length-with_levels : (claims : List (Claim L)) (entries : List (Entry L)) → length (with_levels entries claims) ≡ length entries
+  pub length-with_levels : (claims : List (Claim L)) (entries : List (Option L)) → length (with_levels entries claims) ≡ length entries
   length-with_levels [] entries = refl
   length-with_levels (c ∷ claims) entries = length-with_levels claims (with_entry entries c.atom c.level) ∙ length-with_entry entries c.atom c.level
 
   -- claims above an atom leave its level as it is
-  level_kept : (claims : List (Claim L)) (entries : List (Entry L)) (low a : ℕ) → ascends_above low (atoms_of claims) ≡ true → a ≤ low → level_of (with_levels entries claims) a ≡ level_of entries a
+  level_kept : (claims : List (Claim L)) (entries : List (Option L)) (low a : ℕ) → ascends_above low (atoms_of claims) ≡ true → a ≤ low → level_of (with_levels entries claims) a ≡ level_of entries a
   level_kept [] entries low a ascends lower = refl
   level_kept (c ∷ claims) entries low a ascends lower =
       let parts = and_parts (ltb low c.atom) (ascends_above c.atom (atoms_of claims)) ascends in
@@ -66,7 +64,7 @@ module _ {L : Type 0} where
       level_kept claims (with_entry entries c.atom c.level) c.atom a parts.1 (omega arith)
       ∙ level_apart entries c.atom c.level a (λ e. omega arith) (omega arith)
 
-  pub level_with_levels : (claims : List (Claim L)) (entries : List (Entry L)) → all (within (length entries)) (atoms_of claims) ≡ true → ascending (atoms_of claims) ≡ true
+  pub level_with_levels : (claims : List (Claim L)) (entries : List (Option L)) → all (within (length entries)) (atoms_of claims) ≡ true → ascending (atoms_of claims) ≡ true
       → (a : ℕ) → level_of entries a ≡ None → level_of (with_levels entries claims) a ≡ claimed_level claims a
   level_with_levels [] entries known ascends a none = none
   level_with_levels (c ∷ claims) entries known ascends a none =
@@ -86,10 +84,10 @@ module _ {L : Type 0} where
       ∙ sym (cond-false (eqb a c.atom) (held (Some c.level)) (claimed_level claims a) apart))
       (cases_Bool (eqb a c.atom))
 
-  none_held : (many i : ℕ) → held {L = L} (slice_get (replicate many Empty) i) ≡ None
+  none_held : (many i : ℕ) → held {L = L} (slice_get (replicate many None) i) ≡ None
   none_held zero i = refl
   none_held (suc many) zero = refl
   none_held (suc many) (suc i) = none_held many i
 
-  pub none_levelled : (many a : ℕ) → level_of {L = L} (replicate many Empty) a ≡ None
-  none_levelled many a = elim (eqb a 0) as (λ t. cond {A = Option L} t None (held (slice_get (replicate many Empty) (a - 1))) ≡ None) [ true ↦ refl | false ↦ none_held many (a - 1) ]
+  pub none_levelled : (many a : ℕ) → level_of {L = L} (replicate many None) a ≡ None
+  none_levelled many a = elim (eqb a 0) as (λ t. cond {A = Option L} t None (held (slice_get (replicate many None) (a - 1))) ≡ None) [ true ↦ refl | false ↦ none_held many (a - 1) ]

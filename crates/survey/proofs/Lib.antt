@@ -1,5 +1,4 @@
 pub mod Allowed
-pub mod Claims
 pub mod Lawful
 pub mod Levelled
 pub mod Made

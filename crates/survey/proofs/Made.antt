@@ -1,5 +1,5 @@
 -- The tables of a survey that is made say what its claims say. Assumes nothing.
-use Rattle.std.proofs.Common.{◌≡◌, ℕ, Bool, true, false, cond, ◌||◌, eqb, List, [], length, replicate, Ok, Err, Result, refl, ap, ◌∙◌}
+use Rattle.std.proofs.Common.{◌≡◌, ℕ, Bool, true, false, cond, ◌||◌, eqb, List, [], length, replicate, Ok, Err, Result, refl, ap, ◌∙◌, None, Option}
 use Rattle.std.proofs.lemmas.List.{length-replicate}
 use Rattle.std.proofs.lemmas.Bool.{eqb-true, eq-eqb, cond-true}
 use Rattle.refusal.specs.Results.{err_not_ok, passed}
@@ -7,8 +7,6 @@ use Rattle.refusal.specs.Tables.{wrong_length}
 use Rattle.refusal.specs.declared.Refusal.{Refusal}
 use Rattle.rules.specs.Program.{within}
 use Rattle.rules.specs.Tests.{all, member}
-use Rattle.levels.specs.declared.table.Entry.{Entry}
-use Rattle.levels.specs.declared.table.Entry.TheVariants.{Empty}
 use Rattle.certificate.specs.Claims.{atoms_of, LawfulClaims}
 use Rattle.certificate.specs.Reading.{claims_in}
 use Rattle.certificate.specs.declared.Claim.{Claim}
@@ -27,7 +25,7 @@ module _ {L : Type 0} where
   length-made_marks many claims = length-with_claims claims (replicate many 0) ∙ length-replicate many 0
 
   pub length-made_entries : (many : ℕ) (claims : List (Claim L)) → length (made_entries many claims) ≡ many
-  length-made_entries many claims = length-with_levels claims (replicate many Empty) ∙ length-replicate many Empty
+  length-made_entries many claims = length-with_levels claims (replicate many None) ∙ length-replicate many None
 
   pub made_from_lawful : (n : ℕ) (claims : List (Claim L)) → LawfulClaims n claims → MadeFrom claims (made_marks n claims) (made_entries n claims)
   made_from_lawful n claims lawful = record {
@@ -35,7 +33,7 @@ module _ {L : Type 0} where
         marked-with_claims claims (replicate n 0) (ap (λ m. all (within m) (atoms_of claims)) (length-replicate n 0) ∙ lawful.known) a
         ∙ or_none (member a (atoms_of claims)) _ (none_marked n a);
     levels_are_claimed = λ a.
-        level_with_levels claims (replicate n Empty) (ap (λ m. all (within m) (atoms_of claims)) (length-replicate n Empty) ∙ lawful.known) lawful.ascends a (none_levelled n a);
+        level_with_levels claims (replicate n None) (ap (λ m. all (within m) (atoms_of claims)) (length-replicate n None) ∙ lawful.known) lawful.ascends a (none_levelled n a);
   }
 
   -- tables of any lengths, where nothing is claimed
@@ -43,7 +41,7 @@ module _ {L : Type 0} where
   made_from_none many others = record { marked_are_claimed = none_marked many; levels_are_claimed = none_levelled others }
 
   -- what is said of tables holds of equal ones
-  pub made_as : {claims : List (Claim L)} {marks marks' : List ℕ} {entries entries' : List (Entry L)} → MadeFrom claims marks entries → marks' ≡ marks → entries' ≡ entries → MadeFrom claims marks' entries'
+  pub made_as : {claims : List (Claim L)} {marks marks' : List ℕ} {entries entries' : List (Option L)} → MadeFrom claims marks entries → marks' ≡ marks → entries' ≡ entries → MadeFrom claims marks' entries'
   made_as made m e = record {
     marked_are_claimed = λ a. rw m (made.marked_are_claimed a);
     levels_are_claimed = λ a. rw e (made.levels_are_claimed a);

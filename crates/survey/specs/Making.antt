@@ -1,10 +1,8 @@
 -- Making a survey: whether it can be made, and what its tables then hold. Assumes nothing.
-use Rattle.std.specs.Prelude.{ℕ, cond, List, [], ◌∷◌, replicate, Ok, Err, Result, ◌==◌}
+use Rattle.std.specs.Prelude.{ℕ, cond, List, [], ◌∷◌, replicate, Ok, Err, Result, ◌==◌, Some, None, Option}
 use Rattle.refusal.specs.Tables.{wrong_length}
 use Rattle.refusal.specs.declared.Refusal.{Refusal}
 use Rattle.levels.specs.Table.{with_level}
-use Rattle.levels.specs.declared.table.Entry.{Entry}
-use Rattle.levels.specs.declared.table.Entry.TheVariants.{Empty, Holds}
 use Rattle.marks.specs.Marks.{with_in}
 use Rattle.certificate.specs.Reading.{claims_in}
 use Rattle.certificate.specs.declared.Claim.{Claim}
@@ -37,12 +35,12 @@ abbrev pub with_claims : {L : Type 0} → List ℕ → List (Claim L) → List �
 with_claims marks [] = marks
 with_claims marks (c ∷ claims) = with_claims (with_in marks c.atom) claims
 
-abbrev pub with_entry : {L : Type 0} → List (Entry L) → ℕ → Entry L → List (Entry L)
-with_entry entries a Empty = entries
-with_entry entries a (Holds x) = with_level entries a x
+abbrev pub with_entry : {L : Type 0} → List (Option L) → ℕ → Option L → List (Option L)
+with_entry entries a None = entries
+with_entry entries a (Some x) = with_level entries a x
 
 -- the entries with each claimed level put in
-abbrev pub with_levels : {L : Type 0} → List (Entry L) → List (Claim L) → List (Entry L)
+abbrev pub with_levels : {L : Type 0} → List (Option L) → List (Claim L) → List (Option L)
 with_levels entries [] = entries
 with_levels entries (c ∷ claims) = with_levels (with_entry entries c.atom c.level) claims
 
@@ -51,5 +49,5 @@ abbrev pub made_marks : {L : Type 0} → ℕ → List (Claim L) → List ℕ
 made_marks many claims = with_claims (replicate many 0) claims
 
 -- the entries of a survey that is made with claims: every other entry is empty
-abbrev pub made_entries : {L : Type 0} → ℕ → List (Claim L) → List (Entry L)
-made_entries many claims = with_levels (replicate many Empty) claims
+abbrev pub made_entries : {L : Type 0} → ℕ → List (Claim L) → List (Option L)
+made_entries many claims = with_levels (replicate many None) claims

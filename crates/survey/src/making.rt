@@ -1,11 +1,13 @@
 // Making a survey: whether it can be made, and the tables as it leaves them.
+// Marks and levels are two tables side by side: the caller owns both, and lends to a call those that it needs.
+// The clause `named` stands at each call that takes the level table by `&mut`: it ties the table afterwards to the one before, as no type can.
 ghost use Rattle.std.specs.Prelude.{◌≡◌, true, [], length, replicate, is_ok};
-ghost use Rattle.levels.specs.declared.table.Entry.TheVariants.{Empty};
 ghost use Rattle.certificate.specs.Reading.{claims_in};
 ghost use Rattle.survey.specs.Made.{MadeFrom};
 ghost use Rattle.survey.specs.Making.{fitting, claims_for, makeable, claims_or_none, with_claims, with_entry, with_levels, made_marks, made_entries};
 
-use certificate::{check, next_claim};
+use certificate::walk::claims_of;
+use certificate::{HEAD_BYTES, check};
 use levels::order::{Level, StoredLevel};
 use levels::table::{Entry, LevelTable};
 use refusal::{Refusal, check_length};
@@ -31,7 +33,7 @@ pub fn can_make_from<S: RuleSource, L: StoredLevel>(
     levels: &LevelTable<L>,
     certificate: &[u8],
 ) -> Result<(), Refusal>
-    ensures value { result ≡ makeable (claims_for L.width L.decode (S.meaning source.now).atoms L.kind (length marks.now) (length levels.now.entries.now) certificate.now) }
+    ensures value { result ≡ makeable (claims_for L.WIDTH L.decode (S.meaning source.now).atoms L.KIND (length marks.now) (length levels.now.entries.now) certificate.now) }
 {
     can_make(source, marks, levels)?;
     check::<L>(certificate, source.atoms())?;
@@ -41,7 +43,7 @@ pub fn can_make_from<S: RuleSource, L: StoredLevel>(
 // Makes a survey with nothing marked: every atom is out and every entry is empty, whatever the tables' lengths.
 pub fn make<L: Level>(marks: &mut [u8], levels: &mut LevelTable<L>)
     ensures marks { marks.new ≡ replicate (length marks.old) 0 }
-    ensures entries { levels.new.entries.now ≡ replicate (length levels.old.entries.now) Empty }
+    ensures entries { levels.new.entries.now ≡ replicate (length levels.old.entries.now) None }
     ensures claimed { MadeFrom [] marks.new levels.new.entries.now }
     ensures named { levels.new.entries.ghost_name ≡ levels.old.entries.ghost_name }
 {
@@ -57,9 +59,9 @@ pub fn make_from<S: RuleSource, L: StoredLevel>(
     levels: &mut LevelTable<L>,
     certificate: &[u8],
 )
-    ensures marks { marks.new ≡ made_marks (length marks.old) (claims_or_none (claims_for L.width L.decode (S.meaning source.now).atoms L.kind (length marks.old) (length levels.old.entries.now) certificate.now)) }
-    ensures entries { levels.new.entries.now ≡ made_entries (length levels.old.entries.now) (claims_or_none (claims_for L.width L.decode (S.meaning source.now).atoms L.kind (length marks.old) (length levels.old.entries.now) certificate.now)) }
-    ensures claimed { MadeFrom (claims_or_none (claims_for L.width L.decode (S.meaning source.now).atoms L.kind (length marks.old) (length levels.old.entries.now) certificate.now)) marks.new levels.new.entries.now }
+    ensures marks { marks.new ≡ made_marks (length marks.old) (claims_or_none (claims_for L.WIDTH L.decode (S.meaning source.now).atoms L.KIND (length marks.old) (length levels.old.entries.now) certificate.now)) }
+    ensures entries { levels.new.entries.now ≡ made_entries (length levels.old.entries.now) (claims_or_none (claims_for L.WIDTH L.decode (S.meaning source.now).atoms L.KIND (length marks.old) (length levels.old.entries.now) certificate.now)) }
+    ensures claimed { MadeFrom (claims_or_none (claims_for L.WIDTH L.decode (S.meaning source.now).atoms L.KIND (length marks.old) (length levels.old.entries.now) certificate.now)) marks.new levels.new.entries.now }
     ensures named { levels.new.entries.ghost_name ≡ levels.old.entries.ghost_name }
 {
     let answer = can_make_from(source, marks, levels, certificate);
@@ -76,16 +78,14 @@ fn put_claims<L: StoredLevel>(
     levels: &mut LevelTable<L>,
     certificate: &[u8],
 )
-    requires checked { is_ok (claims_in L.width L.decode n L.kind certificate.now) ≡ true }
-    ensures marks { marks.new ≡ with_claims marks.old (claims_or_none (claims_in L.width L.decode n L.kind certificate.now)) }
-    ensures entries { levels.new.entries.now ≡ with_levels levels.old.entries.now (claims_or_none (claims_in L.width L.decode n L.kind certificate.now)) }
+    requires checked { is_ok (claims_in L.WIDTH L.decode n L.KIND certificate.now) ≡ true }
+    ensures marks { marks.new ≡ with_claims marks.old (claims_or_none (claims_in L.WIDTH L.decode n L.KIND certificate.now)) }
+    ensures entries { levels.new.entries.now ≡ with_levels levels.old.entries.now (claims_or_none (claims_in L.WIDTH L.decode n L.KIND certificate.now)) }
     ensures named { levels.new.entries.ghost_name ≡ levels.old.entries.ghost_name }
 {
-    let mut place = 8;
-    'claims: while let Some(step) = next_claim::<L>(certificate, place) {
-        marks::put_in(marks, step.claim.atom);
-        put_entry(levels, step.claim.atom, step.claim.level);
-        place = step.next;
+    'claims: for claim in claims_of::<L>(certificate, HEAD_BYTES) {
+        marks::put_in(marks, claim.atom);
+        put_entry(levels, claim.atom, claim.level);
     }
 }
 
@@ -94,7 +94,7 @@ fn put_entry<L: Level>(levels: &mut LevelTable<L>, atom: u16, entry: Entry<L>)
     ensures after { levels.new.entries.now ≡ with_entry levels.old.entries.now atom entry }
     ensures named { levels.new.entries.ghost_name ≡ levels.old.entries.ghost_name }
 {
-    if let Entry::Holds(level) = entry {
+    if let Some(level) = entry {
         levels.put(atom, level);
     }
 }

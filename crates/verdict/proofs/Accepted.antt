@@ -5,13 +5,12 @@ use Rattle.refusal.specs.Results.{err_not_ok, passed}
 use Rattle.rules.specs.Program.{Program}
 use Rattle.rules.specs.Tests.{lowest}
 use Rattle.levels.specs.Order.{Order}
-use Rattle.levels.specs.declared.table.Entry.{Entry}
 use Rattle.marks.specs.Marks.{marked, lowest_unlawful}
 use Rattle.verdict.specs.Judge.{lowest_broken, unlevelled, ungrounded, by_ground, by_levels, by_rules, verdict, by_bytes, judged, AcceptsOnlyStable}
 use Rattle.verdict.specs.declared.Verdict.TheVariants.{Accepted}
 use Rattle.verdict.proofs.Grounded.{accepted_is_stable}
 
-module _ {L : Type 0} (below : L → L → Bool) (p : Program) (marks : List ℕ) (entries : List (Entry L)) (m : ℕ) where
+module _ {L : Type 0} (below : L → L → Bool) (p : Program) (marks : List ℕ) (entries : List (Option L)) (m : ℕ) where
   -- every marked atom is grounded
   Grounded : Type 0
   Grounded = lowest (ungrounded below p marks entries) p.atoms ≡ None
@@ -33,7 +32,7 @@ module _ {L : Type 0} (below : L → L → Bool) (p : Program) (marks : List ℕ
   at_bytes None h = cc
   at_bytes (Some a) h = absurd (let z : ◌≡◌ {A = ℕ} 0 1 = cc in omega arith)
 
-pub judged_is_stable : {L : Type 0} (below : L → L → Bool) (count : ℕ) (rung : ℕ → L) → Order below count rung → (p : Program) (marks : List ℕ) (entries : List (Entry L)) → AcceptsOnlyStable p marks (judged below p marks entries)
+pub judged_is_stable : {L : Type 0} (below : L → L → Bool) (count : ℕ) (rung : ℕ → L) → Order below count rung → (p : Program) (marks : List ℕ) (entries : List (Option L)) → AcceptsOnlyStable p marks (judged below p marks entries)
 unfolding Grounded
 judged_is_stable below count rung laws p marks entries m h =
     let sized = passed (eqb (length marks) p.atoms) err_not_ok h in

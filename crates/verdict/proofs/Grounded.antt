@@ -11,7 +11,6 @@ use Rattle.rules.proofs.Parts.{each_rule}
 use Rattle.rules.proofs.Reduct.{Heeds, closed_from_rules, rules_from_closed}
 use Rattle.rules.proofs.Tests.{all_both, all_from_each, each_from_all, any_from_none, given_by_any, none_from_lowest, tally_less}
 use Rattle.levels.specs.Table.{level_of}
-use Rattle.levels.specs.declared.table.Entry.{Entry}
 use Rattle.marks.specs.Marks.{marked}
 use Rattle.verdict.proofs.Marked.{marked_above, marked_upto}
 use Rattle.verdict.specs.Judge.{both_below, grounded, is_broken, lower, lowest_broken, ungrounded}
@@ -51,7 +50,7 @@ module _ {L : Type 0} (below : L → L → Bool) (irrefl : (x : L) → below x x
   both_below_trans (Some x) (Some y) None h k = k
   both_below_trans (Some x) (Some y) (Some z) h k = trans x y z h k
 
-  module _ (p : Program) (marks : List ℕ) (entries : List (Entry L)) (sized : length marks ≡ p.atoms) where
+  module _ (p : Program) (marks : List ℕ) (entries : List (Option L)) (sized : length marks ≡ p.atoms) where
     -- b is marked, with a level below a's
     abbrev under : ℕ → ℕ → Bool
     under a b = marked marks b && lower below entries a b

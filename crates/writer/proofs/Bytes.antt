@@ -1,22 +1,8 @@
--- Two bytes more in a list, and bytes laid over an output one after the other. Assumes nothing.
-use Rattle.std.proofs.Common.{◌≡◌, ℕ, ◌+◌, ◌-◌, ◌/◌, ◌%◌, ◌<◌, ◌≤◌, List, [], ◌∷◌, ◌++◌, length, take, drop, set, sym, refl, ap, ◌∙◌, arith, length-drop, length-set, length-take}
+-- Bytes laid over an output one after the other. Assumes nothing.
+use Rattle.std.proofs.Common.{◌≡◌, ℕ, ◌+◌, ◌-◌, ◌≤◌, List, [], ◌++◌, length, take, drop, sym, refl, ap, ◌∙◌, arith, length-drop, length-take}
 use borrow.Rule.Slice.PartMut.{put_mid}
-use Rattle.std.proofs.lemmas.List.{append_assoc, append-nil, take_more_set, take_at, take_rest, drop_at, drop-drop, drop_all, length-append}
+use Rattle.std.proofs.lemmas.List.{append_assoc, append-nil, take_at, take_rest, drop_at, drop-drop, drop_all, length-append}
 use Rattle.writer.specs.Writing.{laid_over}
-
-pub two_more : (bs : List ℕ) (i a b : ℕ) → i + 2 ≤ length bs → take (i + 2) (set (set bs i a) (i + 1) b) ≡ take i bs ++ (a ∷ (b ∷ []))
-two_more bs i a b room =
-    let next : i + 2 ≡ (i + 1) + 1 = omega arith in
-    let first = set bs i a in
-    let inside : i + 1 < length first = omega (arith, length-set bs i a) in
-    ap (λ n. take n (set first (i + 1) b)) next
-    ∙ take_more_set first (i + 1) b inside
-    ∙ ap (λ t. t ++ (b ∷ [])) (take_more_set bs i a (omega arith))
-    ∙ append_assoc (take i bs) (a ∷ []) (b ∷ [])
-
--- the high byte of a number of 16 bits
-pub high_byte : (n : ℕ) → n < 65536 → n / 256 % 256 ≡ n / 256
-high_byte n fits = omega arith
 
 module _ (a b out : List ℕ) where
   -- bytes laid over what follows those that were laid before

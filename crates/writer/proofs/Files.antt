@@ -1,6 +1,7 @@
 -- The file of a program, record by record. Assumes nothing.
 use Rattle.std.proofs.Common.{◌≡◌, ℕ, zero, suc, ◌+◌, ◌-◌, ◌*◌, ◌<◌, ◌≤◌, List, [], ◌∷◌, ◌++◌, length, get_or, take, unwrap_or, sym, ap, ◌∙◌, arith}
-use Rattle.std.specs.List.{flat_map, AllByRecursion}
+use Rattle.std.specs.List.{flat_map, sum_by, range_with_len, AllByRecursion}
+use Rattle.std.proofs.lemmas.List.Sums.{sum_by-cons}
 use Rattle.std.proofs.lemmas.List.{append_assoc, length-append, take_more, take_all, flat_map_more}
 use Rattle.records.specs.Words.{word_bytes}
 use Rattle.records.proofs.Encoded.{length_record}
@@ -59,6 +60,17 @@ module _ (p : Program) where
 
     pub rule_room : length (front k) + length (rule_bytes (rule_or_empty p k)) + 4 ≤ length (encoding p)
     rule_room = omega (arith, front_length, front_short (k + 1))
+
+  -- the sizes of the rules from rule k on
+  sizes_from : (many k : ℕ) → 1 ≤ k → k + many ≤ length p.rules + 1 → length (front k) + sum_by (λ k. length (rule_bytes (rule_or_empty p k))) (range_with_len k many) ≡ length (front (k + many))
+  sizes_from zero k some inside = let same : k ≡ k + 0 = omega arith in omega (arith, ap (λ k. length (front k)) same)
+  sizes_from (suc many) k some inside =
+      let same : k + 1 + many ≡ k + suc many = omega arith in
+      omega (arith, sum_by-cons (λ k. length (rule_bytes (rule_or_empty p k))) k (range_with_len (k + 1) many), front_length k some (omega arith), sizes_from many (k + 1) (omega arith) (omega arith), ap (λ k. length (front k)) same)
+
+  -- the sizes of all rules, the head and the end make the file's
+  pub sizes : 12 + sum_by (λ k. length (rule_bytes (rule_or_empty p k))) (range_with_len 1 (length p.rules)) ≡ length (encoding p)
+  sizes = omega (arith, sizes_from (length p.rules) 1 (omega arith) (omega arith), ap length (front_all (1 + length p.rules) (omega arith)), end_length)
 
   -- after the head is written
   module _ (out now : List ℕ) (now_is : now ≡ laid_over (head_bytes p) out) (room : length (encoding p) ≤ length out) where

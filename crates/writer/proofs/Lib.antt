@@ -3,3 +3,4 @@ pub mod Atoms
 pub mod Rules
 pub mod Files
 pub mod Trips
+pub mod Spans

@@ -46,9 +46,3 @@ module _ (p : Program) (k : ℕ) where
       ∙ ap (λ t. in_turn (contents_size the_rule) the_rule.head (length the_rule.positive) t right) (positive_is p k)
       ∙ ap (λ t. in_turn (contents_size the_rule) the_rule.head (length the_rule.positive) the_rule.positive t) (negative_is p k)
       ∙ rule_in_turn the_rule
-
--- four numbers put one after the other
-pub four_numbers : {none one two three four : List ℕ} (a b c d : ℕ) → none ≡ [] → one ≡ none ++ two_bytes a → two ≡ one ++ two_bytes b → three ≡ two ++ two_bytes c → four ≡ three ++ two_bytes d
-    → four ≡ two_bytes a ++ (two_bytes b ++ (two_bytes c ++ two_bytes d))
-four_numbers a b c d start first second third fourth =
-    fourth ∙ ap (λ t. t ++ two_bytes d) (third ∙ ap (λ t. t ++ two_bytes c) (second ∙ ap (λ t. t ++ two_bytes b) (first ∙ ap (λ t. t ++ two_bytes a) start)))

@@ -1,4 +1,3 @@
 pub mod Writing
 pub mod RoundTrip
-pub mod Gathered
 pub mod Parts

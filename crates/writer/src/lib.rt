@@ -4,7 +4,7 @@
 ghost use Rattle.std.specs.Prelude.{◌≡◌, ◌≤◌, length, IfOk};
 ghost use Rattle.program.specs.Encoding.{encoding};
 ghost use Rattle.writer.specs.RoundTrip.{ReadsBack, SameBytes};
-ghost use Rattle.writer.specs.Writing.{refusal_at, size_checked, write_answer, laid_over, before_end, output_after};
+ghost use Rattle.writer.specs.Writing.{size_checked, write_answer, laid_over, before_end, output_after};
 
 use crate::record::{rule_size, write_end, write_head, write_rule};
 use program::reader::MAX_RULES;
@@ -26,20 +26,10 @@ pub fn write<S: RuleSource>(source: &S, out: &mut [u8]) -> Result<usize, Refusal
 {
     let size = check_size(source)?;
     if size > out.len() {
-        return Err(refuse(Reason::Output, size));
+        return Err(Layer::Writer.refuse(Reason::Output, size));
     }
     write_file(source, out);
     Ok(size)
-}
-
-fn refuse(reason: Reason, place: usize) -> Refusal
-    ensures value { result ≡ refusal_at reason place }
-{
-    Refusal {
-        reason,
-        layer: Layer::Writer,
-        place,
-    }
 }
 
 // Refuses a source over the limits of a file: that of rules, then that of bytes.
@@ -47,11 +37,11 @@ fn check_size<S: RuleSource>(source: &S) -> Result<usize, Refusal>
     ensures value { result ≡ size_checked (S.meaning source.now) }
 {
     if source.rules() > MAX_RULES {
-        return Err(refuse(Reason::Limit, usize::from(MAX_RULES)));
+        return Err(Layer::Writer.refuse(Reason::Limit, usize::from(MAX_RULES)));
     }
     let size = file_size(source);
     if size > MAX_BYTES {
-        return Err(refuse(Reason::Limit, MAX_BYTES));
+        return Err(Layer::Writer.refuse(Reason::Limit, MAX_BYTES));
     }
     Ok(size)
 }
@@ -60,11 +50,9 @@ fn check_size<S: RuleSource>(source: &S) -> Result<usize, Refusal>
 fn file_size<S: RuleSource>(source: &S) -> usize
     ensures value { result ≡ length (encoding (S.meaning source.now)) }
 {
-    let mut size = 12;
-    for rule in 1..=source.rules() {
-        size += rule_size(source, rule);
-    }
-    size
+    12 + (1..=source.rules())
+        .map(|rule| rule_size(source, rule))
+        .sum::<usize>()
 }
 
 // Writes the records one after the other.
@@ -77,6 +65,7 @@ fn write_file<S: RuleSource>(source: &S, out: &mut [u8])
 }
 
 // Writes the head and the rules, each record where the one before it ends, and tells where the last ends.
+// The place is carried by hand: a record is written to the output that is lent from its first byte on.
 fn write_rules<S: RuleSource>(source: &S, out: &mut [u8]) -> usize
     requires room { length (encoding (S.meaning source.now)) ≤ length out.old }
     ensures value { result ≡ length (before_end (S.meaning source.now)) }

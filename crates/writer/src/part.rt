@@ -1,48 +1,25 @@
-// The parts of a rule, walked until a position is absent.
+// The parts of a rule, counted and put in a block.
 ghost use Rattle.std.specs.Prelude.{◌≡◌, ◌+◌, ◌*◌, ◌≤◌, ◌++◌, length};
-ghost use Rattle.std.specs.List.{slice_get};
 ghost use Rattle.records.specs.Words.{word_bytes};
-ghost use Rattle.writer.specs.Gathered.{gathered};
-ghost use Rattle.writer.specs.Parts.{atoms_in};
+ghost use Rattle.rules.specs.Parts.{part_of};
 
-use crate::block::Block;
+use crate::block::{Block, push_number};
 use rules::RuleSource;
-
-#[derive(Clone, Copy)]
-pub(crate) enum Part {
-    Positive,
-    Negative,
-}
-
-// The atom at a position of a part.
-fn atom_at<S: RuleSource>(source: &S, rule: u16, part: Part, position: u16) -> Option<u16>
-    ensures value { result ≡ slice_get (atoms_in (S.meaning source.now) rule part) position }
-{
-    match part {
-        Part::Positive => source.positive(rule, position),
-        Part::Negative => source.negative(rule, position),
-    }
-}
+use rules::part::{Part, atoms_of};
 
 // How many atoms a part has.
-pub(crate) fn count_atoms<S: RuleSource>(source: &S, rule: u16, part: Part) -> u16
-    ensures value { result ≡ length (atoms_in (S.meaning source.now) rule part) }
+pub(crate) fn count_atoms<S: RuleSource>(source: &S, rule: u16, part: Part) -> usize
+    ensures value { result ≡ length (part_of (S.meaning source.now) rule part) }
 {
-    let mut count = 0;
-    while atom_at(source, rule, part, count).is_some() {
-        count += 1;
-    }
-    count
+    atoms_of(source, rule, part).count()
 }
 
 // Puts the atoms of a part after what the block has.
 pub(crate) fn push_atoms<S: RuleSource>(source: &S, rule: u16, part: Part, block: &mut Block)
-    requires room { length (gathered block.old) + 2 * length (atoms_in (S.meaning source.now) rule part) ≤ 518 }
-    ensures after { gathered block.new ≡ gathered block.old ++ word_bytes (atoms_in (S.meaning source.now) rule part) }
+    requires room { length block.old.items + 2 * length (part_of (S.meaning source.now) rule part) ≤ 518 }
+    ensures after { block.new.items ≡ block.old.items ++ word_bytes (part_of (S.meaning source.now) rule part) }
 {
-    let mut position = 0;
-    while let Some(atom) = atom_at(source, rule, part, position) {
-        block.push(atom);
-        position += 1;
+    for atom in atoms_of(source, rule, part) {
+        push_number(block, atom);
     }
 }

@@ -1,13 +1,14 @@
 // The records of a program file, each gathered in a block and copied to the front of the output it is given.
 ghost use Rattle.std.specs.Prelude.{◌≡◌, ◌≤◌, length};
 ghost use Rattle.program.specs.Encoding.{head_bytes, rule_bytes, end_bytes};
-ghost use Rattle.writer.specs.Gathered.{gathered};
 ghost use Rattle.writer.specs.Parts.{rule_or_empty};
 ghost use Rattle.writer.specs.Writing.{laid_over};
 
-use crate::block::Block;
-use crate::part::{Part, count_atoms, push_atoms};
+use crate::block::{Block, block_of, copy_to};
+use crate::part::{count_atoms, push_atoms};
+use records::kind::RecordKind;
 use rules::RuleSource;
+use rules::part::Part;
 
 // How many bytes the record of a rule has.
 pub(crate) fn rule_size<S: RuleSource>(source: &S, rule: u16) -> usize
@@ -15,7 +16,7 @@ pub(crate) fn rule_size<S: RuleSource>(source: &S, rule: u16) -> usize
 {
     let positive = count_atoms(source, rule, Part::Positive);
     let negative = count_atoms(source, rule, Part::Negative);
-    8 + 2 * usize::from(positive + negative)
+    8 + 2 * (positive + negative)
 }
 
 // Writes the head record, and tells its length.
@@ -24,12 +25,9 @@ pub(crate) fn write_head<S: RuleSource>(source: &S, out: &mut [u8]) -> usize
     ensures value { result ≡ 8 }
     ensures after { out.new ≡ laid_over (head_bytes (S.meaning source.now)) out.old }
 {
-    let mut block = Block::new();
-    block.push(4);
-    block.push(1);
-    block.push(source.atoms());
-    block.push(source.rules());
-    block.copy_to(out)
+    let kind = RecordKind::ProgramHead.number();
+    let block = block_of(&[4, kind, source.atoms(), source.rules()]);
+    copy_to(&block, out)
 }
 
 // Writes the record of a rule, and tells its length.
@@ -39,20 +37,19 @@ pub(crate) fn write_rule<S: RuleSource>(source: &S, rule: u16, out: &mut [u8]) -
     ensures after { out.new ≡ laid_over (rule_bytes (rule_or_empty (S.meaning source.now) rule)) out.old }
 {
     let block = gather_rule(source, rule);
-    block.copy_to(out)
+    copy_to(&block, out)
 }
 
 // The record of a rule: its length, its kind, the head, how many positive atoms there are, and the atoms.
 fn gather_rule<S: RuleSource>(source: &S, rule: u16) -> Block
-    ensures value { gathered result ≡ rule_bytes (rule_or_empty (S.meaning source.now) rule) }
+    ensures value { result.items ≡ rule_bytes (rule_or_empty (S.meaning source.now) rule) }
 {
     let positive = count_atoms(source, rule, Part::Positive);
     let negative = count_atoms(source, rule, Part::Negative);
-    let mut block = Block::new();
-    block.push(4 + 2 * (positive + negative));
-    block.push(2);
-    block.push(source.head(rule).unwrap_or(0));
-    block.push(positive);
+    let size = 4 + 2 * (positive + negative);
+    let kind = RecordKind::Rule.number();
+    let head = source.head(rule).unwrap_or(0);
+    let mut block = block_of(&[size as u16, kind, head, positive as u16]);
     push_atoms(source, rule, Part::Positive, &mut block);
     push_atoms(source, rule, Part::Negative, &mut block);
     block
@@ -63,8 +60,6 @@ pub(crate) fn write_end(out: &mut [u8])
     requires room { 4 ≤ length out.old }
     ensures after { out.new ≡ laid_over end_bytes out.old }
 {
-    let mut block = Block::new();
-    block.push(0);
-    block.push(3);
-    block.copy_to(out);
+    let block = block_of(&[0, RecordKind::End.number()]);
+    copy_to(&block, out);
 }

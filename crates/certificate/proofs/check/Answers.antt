@@ -10,6 +10,6 @@ returns g c =
     let bytes = c.args.bytes.now in
     record {
       value = search rules;
-      exact = reads_exactly m.width m.encode m.decode m.stored c.args.n m.kind bytes (bytes_from_fits bytes c.type_inv.bytes);
-      never = never_too_many m.width m.decode c.args.n m.kind bytes;
+      exact = reads_exactly m.WIDTH m.encode m.decode m.stored c.args.n m.KIND bytes (bytes_from_fits bytes c.type_inv.bytes);
+      never = never_too_many m.WIDTH m.decode c.args.n m.KIND bytes;
     }

@@ -1,19 +1,11 @@
--- One byte more counted, by whether its atom is in.
-use Rattle.std.proofs.Common.{arith}
-use Rattle.marks.proofs.Bytes.{counted_in, counted_out}
+-- The bytes that say that their atom is in are as many as the marked atoms.
+use Rattle.std.proofs.Common.{◌≡◌, ◌∙◌, rules}
+use Rattle.std.specs.List.{count_by}
+use Rattle.marks.specs.Marks.{in_byte}
+use Rattle.marks.proofs.Bytes.{counted}
 use Rattle.marks.proofs.count_marked.Goals as goal
-use Rattle.marks.proofs.count_marked.Goals.{then-is_in, else-is_in}
 
-pub loop-byte-preserved : goal.loop-byte-preserved
-loop-byte-preserved c =
-    let marks = c.args.marks.now in
-    let i = c.loop-byte.byte-index in
-    let within = c.loop-byte-test.true in
-    elim c.if-is_in.branch [
-      | then-is_in w ↦
-          let step = counted_in marks i within w.if-is_in.ensures.value in
-          (omega (arith, w.count-is), omega (arith, w.count-is, step))
-      | else-is_in w ↦
-          let step = counted_out marks i within w.if-is_in.ensures.value in
-          (omega (arith, w.count-is), omega (arith, w.count-is, step))
-    ]
+pub returns : goal.returns
+returns c =
+    let counts : c.count.result ≡ count_by in_byte c.args.marks.now = search rules in
+    record { value = counts ∙ counted c.args.marks.now }

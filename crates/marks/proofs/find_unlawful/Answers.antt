@@ -1,13 +1,12 @@
--- One byte more looked at, by whether it has a meaning.
-use Rattle.std.proofs.Common.{sym, ◌∙◌, rules}
-use Rattle.marks.proofs.Bytes.{unlawful_here, unlawful_later}
+-- The first byte without a meaning is that of the lowest such atom.
+use Rattle.std.proofs.Common.{◌≡◌, ◌+◌, not, option_map, ◌∙◌, rules}
+use Rattle.std.specs.List.{position}
+use Rattle.marks.specs.Marks.{lawful_byte}
+use Rattle.marks.proofs.Bytes.{found}
 use Rattle.marks.proofs.find_unlawful.Goals as goal
 
-pub returns-then-not-is_lawful : goal.returns-then-not-is_lawful
-returns-then-not-is_lawful c =
-    let found = sym (unlawful_here c.args.marks.now c.loop-i.i c.loop-i-test.true c.if-not-is_lawful.ensures.value) ∙ c.loop-i.invariant in
-    search rules
-
-pub loop-i-preserved : goal.loop-i-preserved
-loop-i-preserved c =
-    sym (unlawful_later c.args.marks.now c.loop-i.i c.loop-i-test.true c.if-not-is_lawful.ensures.value) ∙ c.loop-i.invariant
+pub returns : goal.returns
+returns c =
+    let marks = c.args.marks.now in
+    let finds : c.map.result ≡ option_map (λ k. k + 1) (position (λ b. not (lawful_byte b)) marks) = search rules in
+    record { value = finds ∙ found marks }

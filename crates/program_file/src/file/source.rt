@@ -4,12 +4,13 @@ ghost use Rattle.std.specs.List.{slice_get};
 ghost use Rattle.rules.specs.Program.{within};
 ghost use Rattle.program.specs.Reading.{program_in};
 ghost use Rattle.program.specs.Index.{indexed};
-ghost use Rattle.program_file.specs.File.{program_of};
+ghost use Rattle.program_file.specs.File.{program_of, program_read};
 ghost use Rattle.program_file.specs.Lawful.{file_lawful};
 
 use crate::file::ProgramFile;
 use crate::stored::{head_at, negative_at, positive_at};
-use program::reader::Index;
+use program::reader::{Index, check};
+use refusal::Refusal;
 use rules::RuleSource;
 
 impl<'a> ProgramFile<'a> {
@@ -19,6 +20,14 @@ impl<'a> ProgramFile<'a> {
         ensures value { result.bytes.now ≡ bytes.now }
     {
         ProgramFile { bytes, index }
+    }
+
+    // The file over bytes, once they are checked.
+    pub fn read(bytes: &'a [u8]) -> Result<ProgramFile<'a>, Refusal>
+        ensures value { program_read result ≡ program_in bytes.now }
+    {
+        let index = check(bytes)?;
+        Ok(ProgramFile::over(bytes, index))
     }
 }
 
@@ -36,23 +45,17 @@ impl<'a> RuleSource for ProgramFile<'a> {
     }
 
     fn head(&self, rule: u16) -> Option<u16> {
-        let Some(start) = self.index.start_of(rule) else {
-            return None;
-        };
+        let start = self.index.start_of(rule)?;
         head_at(self.bytes, start)
     }
 
     fn positive(&self, rule: u16, position: u16) -> Option<u16> {
-        let Some(start) = self.index.start_of(rule) else {
-            return None;
-        };
+        let start = self.index.start_of(rule)?;
         positive_at(self.bytes, start, position)
     }
 
     fn negative(&self, rule: u16, position: u16) -> Option<u16> {
-        let Some(start) = self.index.start_of(rule) else {
-            return None;
-        };
+        let start = self.index.start_of(rule)?;
         negative_at(self.bytes, start, position)
     }
 }

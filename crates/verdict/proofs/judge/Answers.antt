@@ -14,6 +14,6 @@ returns g c =
     let entries = c.args.levels.now.entries.now in
     record {
       value = search rules;
-      accepted_is_stable = λ m e. judged_is_stable level.below level.count level.rung level.laws p marks entries m
+      accepted_is_stable = λ m e. judged_is_stable level.below level.RUNGS level.rung level.laws p marks entries m
           (subst (λ (v : Result Verdict Refusal). judged level.below p marks entries ≡ v) e (sym (search rules)));
     }

@@ -1,34 +1,33 @@
--- The size of one record more.
-use Rattle.std.proofs.Common.{◌+◌, ◌<◌, ◌≤◌, length, ap, arith, rules}
-use Rattle.writer.proofs.Files.{front_all, front_length, end_length, file_bound, rule_room}
+-- The sizes of the rules are summed.
+use Rattle.std.proofs.Common.{◌≡◌, ◌+◌, length, ap, ◌∙◌, arith, rules}
+use Rattle.std.specs.List.{range_with_len}
+use Rattle.std.proofs.lemmas.Iterator.{YieldsList-from_map}
+use Rattle.std.proofs.lemmas.Iterator.Consumers.{YieldsList-at, sum_by_from_yields_List, fits_by_from_yields_list}
+use Rattle.program.specs.Encoding.{rule_bytes, encoding}
+use Rattle.writer.specs.Parts.{rule_or_empty}
+use Rattle.writer.proofs.Files.{sizes, file_bound}
+use Rattle.writer.proofs.Spans.{YieldsList-from_span}
+use Rattle.writer.proofs.file_size.Given as given
 use Rattle.writer.proofs.file_size.Goals as goal
 
-pub overflow_add-size : goal.overflow_add-size
-overflow_add-size g c =
+pub sum-requires-clause-fits : goal.sum-requires-clause-fits
+sum-requires-clause-fits g c =
     let p = g.S.RuleSource.meaning c.args.source.now in
-    let k = c.loop-rule.rule in
-    let inside : k ≤ length p.rules = omega (arith, c.loop-rule-test.true, c.rules-rule-end.ensures.value) in
-    omega (arith, c.loop-rule.invariant.1, c.rule_size-size.ensures.value, rule_room p k c.loop-rule.invariant.0 inside, file_bound p (g.S.RuleSource.lawful c.args.source.now))
+    let lawful = g.S.RuleSource.lawful c.args.source.now in
+    fits_by_from_yields_list (λ k. length (rule_bytes (rule_or_empty p k))) (range_with_len 1 (length p.rules)) c.map.result _
+    (YieldsList-from_map _ (λ k. length (rule_bytes (rule_or_empty p k))) (YieldsList-at c.map.ensures.source (YieldsList-from_span (length p.rules) c.new.ensures.start (c.new.ensures.end ∙ c.rules.ensures.value) c.new.ensures.exhausted)) c.map.ensures.closure (λ x r q k. search rules))
+    (omega (arith, sizes p, file_bound p lawful))
 
-pub loop-rule-preserved : goal.loop-rule-preserved
-loop-rule-preserved g c =
+summed : (g : given.Over) (c : goal.After-sum g) → 12 + c.sum.result ≡ length (encoding (g.S.RuleSource.meaning c.args.source.now))
+summed g c =
     let p = g.S.RuleSource.meaning c.args.source.now in
-    let k = c.loop-rule.rule in
-    let some : 1 ≤ k = c.loop-rule.invariant.0 in
-    let inside : k ≤ length p.rules = omega (arith, c.loop-rule-test.true, c.rules-rule-end.ensures.value) in
-    (omega (arith, some), omega (arith, front_length p k some inside, c.rule_size-size.ensures.value, c.loop-rule.invariant.1))
+    ap (λ n. 12 + n)
+    (sum_by_from_yields_List (λ k. length (rule_bytes (rule_or_empty p k))) (range_with_len 1 (length p.rules)) c.map.result c.sum.result c.sum.ensures.ran
+    (YieldsList-from_map _ (λ k. length (rule_bytes (rule_or_empty p k))) (YieldsList-at c.map.ensures.source (YieldsList-from_span (length p.rules) c.new.ensures.start (c.new.ensures.end ∙ c.rules.ensures.value) c.new.ensures.exhausted)) c.map.ensures.closure (λ x r q k. search rules)))
+    ∙ sizes p
+
+pub overflow_add-result : goal.overflow_add-result
+overflow_add-result g c = omega (arith, summed g c, file_bound (g.S.RuleSource.meaning c.args.source.now) (g.S.RuleSource.lawful c.args.source.now))
 
 pub returns : goal.returns
-returns g c =
-    let p = g.S.RuleSource.meaning c.args.source.now in
-    let past : length p.rules < c.loop-rule.rule = omega (arith, c.loop-rule-test.false, c.rules-rule-end.ensures.value) in
-    record { value = omega (arith, ap length (front_all p c.loop-rule.rule past), end_length p, c.loop-rule.invariant.1) }
-
-pub returns-2 : goal.returns-2
-returns-2 g c =
-    let p = g.S.RuleSource.meaning c.args.source.now in
-    let k = c.loop-rule.rule in
-    let inside : k ≤ length p.rules = omega (arith, c.loop-rule-test.true, c.rules-rule-end.ensures.value) in
-    let last : c.rules-rule-end.result ≤ k = search rules in
-    let past : length p.rules < k + 1 = omega (arith, last, c.rules-rule-end.ensures.value) in
-    record { value = omega (arith, ap length (front_all p (k + 1) past), end_length p, front_length p k c.loop-rule.invariant.0 inside, c.rule_size-size.ensures.value, c.loop-rule.invariant.1) }
+returns g c = record { value = summed g c }

@@ -12,9 +12,9 @@ returns-in_err-can_make_from g c =
     let program = g.S.RuleSource.meaning c.args.source.now in
     let level = g.L.StoredLevel in
     let certificate = c.args.certificate.now in
-    let fitting = claims_for_fitting level.width level.decode program.atoms level.kind certificate _ _ c.requires.marks (ap length c.over-levels.ensures.value ∙ c.requires.entries) in
+    let fitting = claims_for_fitting level.WIDTH level.decode program.atoms level.KIND certificate _ _ c.requires.marks (ap length c.over-levels.ensures.value ∙ c.requires.entries) in
     record {
       value = p.1 ∙ ap Err p.2
-          ∙ refused_claims g.L.Level.below program (claims_in level.width level.decode program.atoms level.kind certificate) c.in_err-can_make_from.field-0.0
+          ∙ refused_claims g.L.Level.below program (claims_in level.WIDTH level.decode program.atoms level.KIND certificate) c.in_err-can_make_from.field-0.0
           (c.in_err-can_make_from.ensures.value ∙ ap makeable fitting);
     }

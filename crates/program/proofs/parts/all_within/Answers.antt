@@ -1,12 +1,17 @@
--- A turn passes an atom that is known.
-use Rattle.std.proofs.Common.{sym, ap, ◌∙◌, rules}
+-- The numbers in the part are tested one by one.
+use Rattle.std.proofs.Common.{◌∙◌, ap, rules}
+use Rattle.std.proofs.lemmas.Iterator.Consumers.{YieldsList-from_first}
+use Rattle.std.proofs.lemmas.Iterator.Search.{all_from_yields_List}
+use Rattle.records.specs.Words.{words}
 use Rattle.rules.specs.Program.{within}
-use Rattle.program.proofs.Walks.{within_from, all_more}
+use Rattle.program.proofs.Walks.{list_all-all}
 use Rattle.program.proofs.parts.all_within.Goals as goal
+use borrow.Author.Tests.{tests}
 
-pub loop-rest-preserved : goal.loop-rest-preserved
-loop-rest-preserved c =
-    let rest = c.loop-rest.rest.now in
-    let n = c.args.n in
-    let is = c.word-atom.ensures.value in
-    all_more (within n) rest _ (search rules) (ap (within n) (sym is) ∙ within_from n c.word-atom.result c.if-atom-lt1.false c.if-atom-n.false) c.loop-rest.invariant
+pub returns : goal.returns
+returns c =
+    let test = within c.args.n in
+    record {
+      value = all_from_yields_List test c.all.new.self _ _ c.all.ensures.ran (YieldsList-from_first (λ x. x) (λ s. words s.bytes.now) _ (ap words c.words_in.ensures.value)) (λ x b q k. search (rules, tests))
+          ∙ list_all-all test (words c.args.part.now);
+    }

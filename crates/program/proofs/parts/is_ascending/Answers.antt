@@ -1,11 +1,11 @@
--- A part ascends when what follows its first atom ascends above it.
-use Rattle.std.proofs.Common.{sym, ap, ◌∙◌, rules}
+-- The numbers in the part are compared one by one.
+use Rattle.std.proofs.Common.{◌∙◌, ap, rules}
 use Rattle.records.specs.Words.{words}
-use Rattle.records.proofs.Words.{tail_of, words_more}
-use Rattle.rules.specs.Program.{ascends_above, ascending}
+use Rattle.rules.specs.Program.{ascending}
+use Rattle.program.proofs.Walks.{ascending_from}
 use Rattle.program.proofs.parts.is_ascending.Goals as goal
+use borrow.Author.Tests.{tests}
 
 pub returns : goal.returns
 returns c =
-    let part = c.args.part.now in
-    record { value = c.ascends_above.ensures.value ∙ (ap (λ a. ascends_above a (words (tail_of part))) c.word.ensures.value ∙ ap ascending (sym (words_more part (search rules)))) }
+    record { value = ascending_from (λ s. words s.bytes.now) _ _ (λ x y r q k. search (rules, tests)) _ _ c.is_sorted_by.ensures.ran ∙ ap (λ bs. ascending (words bs)) c.words_in.ensures.value }

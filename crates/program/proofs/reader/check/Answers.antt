@@ -4,8 +4,8 @@ use Rattle.records.proofs.Encoded.{bytes_from_fits}
 use Rattle.program.proofs.Relation.{reads_exactly}
 use Rattle.program.proofs.reader.check.Goals as goal
 
-pub returns-then-bytes-gt-MAX_BYTES : goal.returns-then-bytes-gt-MAX_BYTES
-returns-then-bytes-gt-MAX_BYTES c =
+pub returns-in_err-file : goal.returns-in_err-file
+returns-in_err-file c =
     let bytes = c.args.bytes.now in
     record { value = search rules; exact = reads_exactly bytes (bytes_from_fits bytes c.type_inv.bytes) }
 

@@ -1,13 +1,10 @@
 -- What the loop of `push_atoms` keeps.
-use Rattle.std.proofs.Common.{◌≡◌, ◌-◌, ◌++◌, length, take}
+use Rattle.std.proofs.Common.{◌≡◌, ◌++◌}
 use Rattle.records.specs.Words.{word_bytes}
-use Rattle.writer.specs.Gathered.{gathered}
-use Rattle.writer.specs.Parts.{atoms_in}
+use Rattle.rules.specs.Parts.{part_of, atoms_left}
 use Rattle.writer.proofs.part.push_atoms.Given as goal
 
--- the atoms up to the position stand after what was there
+-- what stands and what is left make the whole part
 abbrev pub invariant-loop-atom : goal.invariant-loop-atom
-invariant-loop-atom g l = gathered l.block ≡ gathered l.initial.block ++ word_bytes (take l.position (atoms_in (g.S.RuleSource.meaning l.source) l.rule l.part))
-
-abbrev pub decreases-loop-atom : goal.decreases-loop-atom
-decreases-loop-atom g l = length (atoms_in (g.S.RuleSource.meaning l.source) l.rule l.part) - l.position
+invariant-loop-atom g l =
+    l.block.items ++ word_bytes (atoms_left g.S.RuleSource.meaning l.atom-iterator) ≡ l.initial.block.items ++ word_bytes (part_of (g.S.RuleSource.meaning l.fn.source) l.fn.rule l.fn.part)

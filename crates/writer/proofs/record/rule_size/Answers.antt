@@ -1,15 +1,9 @@
 -- A record has two bytes for each atom, and eight more.
 use Rattle.std.proofs.Common.{arith}
-use Rattle.rules.proofs.Parts.{few_in_parts}
 use Rattle.writer.proofs.Rules.{rule_length}
 use Rattle.writer.proofs.record.rule_size.Goals as goal
-
-pub overflow_add-positive : goal.overflow_add-positive
-overflow_add-positive g c =
-    let few = few_in_parts (g.S.RuleSource.meaning c.args.source.now) (g.S.RuleSource.lawful c.args.source.now) c.args.rule in
-    omega (arith, few, c.count_atoms-positive.ensures.value, c.count_atoms-negative.ensures.value)
 
 pub returns : goal.returns
 returns g c =
     let long = rule_length (g.S.RuleSource.meaning c.args.source.now) c.args.rule in
-    record { value = omega (arith, long, c.count_atoms-positive.ensures.value, c.count_atoms-negative.ensures.value, c.from.ensures) }
+    record { value = omega (arith, long, c.count_atoms-positive.ensures.value, c.count_atoms-negative.ensures.value) }

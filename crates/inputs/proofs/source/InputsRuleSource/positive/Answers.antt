@@ -1,11 +1,10 @@
 -- A fact has no body.
 use Rattle.std.proofs.Common.{rules}
-use Rattle.inputs.specs.Held.{held}
 use Rattle.inputs.proofs.Asked.{positive_part_stays}
 use Rattle.inputs.proofs.source.InputsRuleSource.positive.Goals as goal
 
 pub returns : goal.returns
 returns g c =
     let self = c.args.self.now in
-    let stays = positive_part_stays (g.S.RuleSource.meaning self.below) (held self.inputs) (g.S.RuleSource.lawful self.below) c.args.rule c.args.position in
+    let stays = positive_part_stays (g.S.RuleSource.meaning self.below) self.inputs.items (g.S.RuleSource.lawful self.below) c.args.rule c.args.position in
     search rules

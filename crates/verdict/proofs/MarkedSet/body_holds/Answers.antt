@@ -1,0 +1,23 @@
+-- The walks look at each positive atom, and then at each negative one.
+use Rattle.std.proofs.Common.{◌≡◌, rules, tests}
+use Rattle.std.proofs.lemmas.Iterator.Consumers.{YieldsList-from_first}
+use Rattle.std.proofs.lemmas.Iterator.Search.{all_from_yields_List, any_from_yields_List}
+use Rattle.rules.specs.Parts.{atoms_left}
+use Rattle.rules.specs.Questions.{positive_part, negative_part}
+use Rattle.rules.specs.Tests.{all, any}
+use Rattle.marks.specs.Marks.{marked}
+use Rattle.verdict.proofs.MarkedSet.body_holds.Given as given
+use Rattle.verdict.proofs.MarkedSet.body_holds.Goals.{After-all}
+use Rattle.verdict.proofs.MarkedSet.body_holds.Goals as goal
+
+every : (g : given.Over) (c : After-all g) → c.all.result ≡ all (marked c.args.self.now.marks.now) (positive_part (g.S.RuleSource.meaning c.args.self.now.source.now) c.args.rule)
+every g c = all_from_yields_List (marked c.args.self.now.marks.now) c.all.new.self _ _ c.all.ensures.ran (YieldsList-from_first (λ x. x) (atoms_left g.S.RuleSource.meaning) _ c.atoms_of.ensures.value) (λ x b q k. search (rules, tests))
+
+pub returns-then-all : goal.returns-then-all
+returns-then-all g c =
+    let h = every g (goal.at.returns-then-all g c).After-all in
+    let k : c.any.result ≡ any (marked c.args.self.now.marks.now) (negative_part (g.S.RuleSource.meaning c.args.self.now.source.now) c.args.rule) = any_from_yields_List (marked c.args.self.now.marks.now) c.any.new.self _ _ c.any.ensures.ran (YieldsList-from_first (λ x. x) (atoms_left g.S.RuleSource.meaning) _ c.atoms_of-then-all.ensures.value) (λ x b q k. search (rules, tests)) in
+    search rules
+
+pub returns-else-all : goal.returns-else-all
+returns-else-all g c = let h = every g (goal.at.returns-else-all g c).After-all in search rules
