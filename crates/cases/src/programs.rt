@@ -162,8 +162,9 @@ pub fn print_all(rt: &HostRuntime) -> io::Result<()> {
 }
 
 fn print_most(rt: &HostRuntime) -> io::Result<()> {
-    let program = most_facts(rt.alloc())?;
-    let certificate = most_claims(rt.alloc())?;
+    // each as a fact, and each by no repeater
+    let program = with_each_atom(rt.alloc(), &[4, 1, 4096, 4096], &[4, 2], &[0])?;
+    let certificate = with_each_atom(rt.alloc(), &[4, 17, 4096, 2], &[10, 18], &[0, 0, 0, 0])?;
     print_pair(rt, "4096 facts, all claimed", program, certificate)
 }
 
@@ -226,23 +227,19 @@ fn long_body(heap: Global, positive: u8) -> Result<FileBytes, AllocError>
     Ok(file)
 }
 
-// Each of 4096 atoms as a fact.
-fn most_facts(heap: Global) -> Result<FileBytes, AllocError> {
+// A head, a record for each of 4096 atoms, of which the words before and after the atom are given, and the end.
+fn with_each_atom(
+    heap: Global,
+    head: &[u16],
+    before: &[u16],
+    after: &[u16],
+) -> Result<FileBytes, AllocError> {
     let mut file = FileBytes::new(heap);
-    file.words(&[4, 1, 4096, 4096])?;
+    file.words(head)?;
     for atom in 1..=4096u16 {
-        file.words(&[4, 2, atom, 0])?;
-    }
-    file.words(&[0, 3])?;
-    Ok(file)
-}
-
-// Each of 4096 atoms by no repeater.
-fn most_claims(heap: Global) -> Result<FileBytes, AllocError> {
-    let mut file = FileBytes::new(heap);
-    file.words(&[4, 17, 4096, 2])?;
-    for atom in 1..=4096u16 {
-        file.words(&[10, 18, atom, 0, 0, 0, 0])?;
+        file.words(before)?;
+        file.word(atom)?;
+        file.words(after)?;
     }
     file.words(&[0, 3])?;
     Ok(file)

@@ -99,6 +99,7 @@ fn open_record(rest: Rest<'_>, width: usize) -> Result<Option<u16>, Refusal>
     ensures value { result ≡ opened width rest.entry.bytes.now rest.entry.place }
     ensures fitting { Fitting width rest.entry.bytes.now result }
 {
+    // `let .. else`, since `map` with `transpose` says no plainer that the end goes on as it is
     let Some(size) = rest.open(RecordKind::Claim)? else {
         return Ok(None);
     };
@@ -123,6 +124,7 @@ fn read_claim<L: StoredLevel>(rest: &[u8], size: u16) -> Claim<L>
     }
 }
 
+// The level in a claim of `size` bytes: two bytes are those of its atom alone, so the length says whether there is a level.
 fn read_level<L: StoredLevel>(rest: &[u8], size: u16) -> Entry<L>
     requires whole { 4 + size ≤ length rest.now }
     requires sized { claim_length L.WIDTH size ≡ true }
@@ -161,7 +163,7 @@ fn count_claims<L: StoredLevel>(records: Rest<'_>, n: u16) -> Result<u16, Refusa
         if count >= n {
             return Err(rest.refuse(Reason::RecordCount));
         }
-        // kept by hand: the next turn compares it, and no iterator yields records that can be refused
+        // kept by hand: the next turn compares it; an iterator over records, each of which may be refused, would be no plainer
         count += 1;
         last = atom;
         rest = rest.after(size);

@@ -10,14 +10,15 @@ use levels::table::{Entry, LevelTable};
 use orders::kind::LevelKind;
 use orders::numbers::Number;
 use orders::routes::Route;
+use program::reader::MAX_ATOMS;
 use program_file::file::ProgramFile;
 use refusal::{Layer, Reason, Refusal};
 use rules::RuleSource;
 use survey::making::{can_make_from, make_from};
 use verdict::{Verdict, judge};
 
-// The tables have one entry for each atom, of which there are at most this many.
-const MAX_ATOMS: usize = 4096;
+// The tables have one entry for each atom, of which there are at most this many; they are arrays, since nothing is allocated.
+const TABLE: usize = MAX_ATOMS as usize;
 
 // Reads the program, then the certificate, and judges the survey that it makes.
 pub fn answer(program: &[u8], certificate: &[u8]) -> Result<Verdict, Refusal>
@@ -32,15 +33,16 @@ pub fn answer(program: &[u8], certificate: &[u8]) -> Result<Verdict, Refusal>
 pub fn answer_over<S: RuleSource>(source: &S, certificate: &[u8]) -> Result<Verdict, Refusal>
     ensures value { result ≡ by_program certificate.now (Ok (S.meaning source.now)) }
 {
-    let mut marks = [0u8; MAX_ATOMS];
+    let mut marks = [0u8; TABLE];
     let stated = read_kind(certificate, source.atoms())?;
+    // an arm for each kind, since it was not proved that an array of entries of any level type fits in memory
     match LevelKind::try_from(stated) {
         Ok(LevelKind::Numbers) => {
-            let mut entries: [Entry<Number>; MAX_ATOMS] = [None; MAX_ATOMS];
+            let mut entries: [Entry<Number>; TABLE] = [None; TABLE];
             judge_within::<S, Number>(source, certificate, &mut marks, &mut entries)
         }
         Ok(LevelKind::Routes) => {
-            let mut entries: [Entry<Route>; MAX_ATOMS] = [None; MAX_ATOMS];
+            let mut entries: [Entry<Route>; TABLE] = [None; TABLE];
             judge_within::<S, Route>(source, certificate, &mut marks, &mut entries)
         }
         Err(_) => Err(Layer::Certificate.refuse(Reason::LevelKind, 0)),

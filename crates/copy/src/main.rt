@@ -66,6 +66,7 @@ fn put_all<S: RuleSource>(rt: &HostRuntime, layer: &mut Inputs<S>) -> io::Result
 
 // Writes the copy, and tells whether it was written.
 fn write_copy<S: RuleSource>(rt: &HostRuntime, source: &S) -> io::Result<bool> {
+    // an array, since the writer takes an output of any length and tells how much of it is the file
     let mut out = [0u8; MAX_BYTES];
     match write(source, &mut out) {
         Ok(size) => {

@@ -15,9 +15,10 @@ const READ_LIMIT: usize = MAX_BYTES + 1;
 pub fn read_front(rt: &HostRuntime, name: &str) -> Result<Vec<u8>, AllocError>
     ensures bound { IfOk result (λ bytes. vec_len bytes ≤ 65001) }
 {
-    let mut buffer = [0u8; READ_LIMIT];
-    let filled = read_into(rt, name, &mut buffer).unwrap_or(0);
-    Vec::from_slice(rt.alloc(), &buffer[..filled])
+    let mut bytes = vec![in rt.alloc(); 0u8; READ_LIMIT]?;
+    let filled = read_into(rt, name, &mut bytes).unwrap_or(0);
+    bytes.truncate(filled);
+    Ok(bytes)
 }
 
 // Opens a file, reads until the buffer is full or the file ends, and answers how many bytes there are.

@@ -5,6 +5,7 @@ use Rattle.refusal.specs.declared.Reason.{Reason}
 use Rattle.refusal.specs.declared.Reason.TheVariants.{Limit, CallAtom}
 use Rattle.refusal.specs.declared.Layer.TheVariants.{Source}
 use Rattle.refusal.specs.declared.Refusal.{Refusal}
+use Rattle.refusal.specs.Refused.{refused}
 use Rattle.rules.specs.Tests.{member}
 use Rattle.rules.specs.Program.{Rule, Program, within}
 
@@ -28,7 +29,7 @@ fact_at p inputs rule =
     (slice_get (filter (within p.atoms) inputs) (rule - length p.rules - 1))
 
 abbrev pub refusal_at : Reason → ℕ → Refusal
-refusal_at reason place = record { reason = reason; layer = Source; place = place }
+refusal_at reason place = refused Source reason place
 
 -- whether an input that is an atom, and not there yet, finds room: first among the inputs, then among the rules
 abbrev pub room_checked : Program → List ℕ → Result (Unit {0}) Refusal

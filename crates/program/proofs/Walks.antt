@@ -1,22 +1,17 @@
 -- Tests of the numbers in a part. Assumes nothing.
-use Rattle.std.proofs.Common.{◌≡◌, ℕ, Bool, true, false, ◌&&◌, ltb, List, [], ◌∷◌, get_or, Some, None, Option, MatchOption, inl, inr, sym, refl, ap, ◌∙◌, subst}
+use Rattle.std.proofs.Common.{◌≡◌, ℕ, Bool, true, false, ◌&&◌, ltb, List, [], ◌∷◌, get_or, Some, None, Option, MatchOption, inl, inr, sym, ap, ◌∙◌, subst}
 use Rattle.std.specs.Iterator.{YieldsFirst, YieldsThen}
 use Rattle.std.specs.Iterator.Order.{ActsAsAtTwo, ChecksNeighbours, OrderTurn}
 use Rattle.std.specs.Fn.{CalledAtTwo}
-use Rattle.std.specs.List.{list_all, FoldsTo}
+use Rattle.std.specs.List.{FoldsTo}
 use Rattle.records.specs.Words.{word_of}
 use Rattle.rules.specs.Program.{ascends_above, ascending}
-use Rattle.rules.specs.Tests.{all}
 use denote.Param.Members.{Mut}
 use denote.Ref.{Bor}
 
 -- the first number that the bytes hold
 abbrev pub here : List ℕ → ℕ
 here xs = word_of (get_or xs 0 0) (get_or xs 1 0)
-
-pub list_all-all : {X : Type 0} (test : X → Bool) (xs : List X) → list_all test xs ≡ all test xs
-list_all-all test [] = refl
-list_all-all test (x ∷ xs) = ap (λ b. test x && b) (list_all-all test xs)
 
 -- `is_sorted_by` compares each number with the one before it
 module _ {S F : Type 0} (rest : S → List ℕ) (g : Mut F (Bor ℕ × (Bor ℕ × Unit {0})) Bool) (f : F) (acts : ActsAsAtTwo g f ltb) where

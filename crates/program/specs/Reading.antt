@@ -6,6 +6,7 @@ use Rattle.refusal.specs.declared.Reason.{Reason}
 use Rattle.refusal.specs.declared.Reason.TheVariants.{Cut, Kind, Length, Limit, Atom, Order, BothParts, RuleCount, Trailing}
 use Rattle.refusal.specs.declared.Layer.TheVariants.{Program as ProgramLayer}
 use Rattle.refusal.specs.declared.Refusal.{Refusal}
+use Rattle.refusal.specs.Refused.{refused}
 use Rattle.records.specs.Words.{words, header_of, word_at}
 use Rattle.records.specs.declared.Header.{Header}
 use Rattle.rules.specs.Program.{Rule, Program, within, ascending, disjoint}
@@ -14,7 +15,7 @@ use Rattle.program.specs.declared.reader.FileHead.{FileHead}
 use Rattle.program.specs.declared.reader.RuleRecord.{RuleRecord}
 
 abbrev pub refusal_at : Reason → ℕ → Refusal
-refusal_at why place = record { reason = why; layer = ProgramLayer; place = place }
+refusal_at why place = refused ProgramLayer why place
 
 abbrev pub refuse : {X : Type 0} → Reason → ℕ → Result X Refusal
 refuse why place = Err (refusal_at why place)

@@ -10,7 +10,7 @@ use records::numbers::words_in;
 pub fn all_within(part: &[u8], n: u16) -> bool
     ensures value { result ≡ all (within n) (words part.now) }
 {
-    words_in(part).all(|atom| 1 <= atom && atom <= n)
+    words_in(part).all(|atom| (1..=n).contains(&atom))
 }
 
 // Is each atom above the one before it?

@@ -17,7 +17,7 @@ use tables::entry;
 
 // A file has at most this many atoms and rules.
 
-const MAX_ATOMS: u16 = 4096;
+pub const MAX_ATOMS: u16 = 4096;
 
 pub const MAX_RULES: u16 = 8000;
 
@@ -111,6 +111,7 @@ fn open_record(rest: Rest<'_>) -> Result<Option<RuleRecord>, Refusal>
     ensures value { result ≡ opened rest.entry.bytes.now rest.entry.place }
     ensures fitting { Fitting rest.entry.bytes.now result }
 {
+    // a `match`, since `map` with `transpose` says no plainer that the end goes on as it is
     match rest.open(RecordKind::Rule)? {
         Some(size) => open_rule(rest, size),
         None => Ok(None),
@@ -167,7 +168,8 @@ fn check_end(rest: Rest<'_>, count: u16, stated: u16) -> Result<(), Refusal>
     rest.check_end()
 }
 
-// Do the two parts, each ascending, have no atom in common? A merge: the smaller first atom is passed, which a chain says no plainer.
+// Do the two parts, each ascending, have no atom in common? A merge, in steps linear in both parts; a chain would compare each
+// atom of one with each of the other.
 fn are_disjoint(left: &[u8], right: &[u8]) -> bool
     requires left { ascending (words left.now) ≡ true }
     requires right { ascending (words right.now) ≡ true }
@@ -210,7 +212,8 @@ fn read_rules(records: Rest<'_>, head: FileHead) -> Result<Index, Refusal>
         }
         check_atoms(rest, rule, head.atoms)?;
         starts[usize::from(count)] = rest.place as u16;
-        // kept by hand: the next turn compares it, it numbers the entry, and no iterator yields records that can be refused
+        // kept by hand: the next turn compares it, and it numbers the entry; an iterator over records, each of which may be
+        // refused, would be no plainer
         count += 1;
         rest = rest.after(rule.size);
     }

@@ -1,4 +1,5 @@
-// The bytes of a file, built record by record.
+// The bytes of a file, built record by record. Kinds of records stand here as numbers: a case says which bytes a file has, and
+// with the reader's own names it would be no plainer.
 ghost use Rattle.std.specs.Prelude.{◌≡◌, ◌+◌, ◌*◌, [], length, IfOk, vec_len, OnOk};
 
 use levels::order::StoredLevel;
@@ -116,10 +117,7 @@ impl FileBytes {
     pub fn zeros(&mut self, many: u32) -> Result<(), AllocError>
         ensures len { OnOk result (vec_len self.new.bytes ≡ vec_len self.old.bytes + many) }
     {
-        for _i in 0..many {
-            self.byte(0)?;
-        }
-        Ok(())
+        self.bytes.resize(self.bytes.len() + many as usize, 0)
     }
 
     // Adds a rule without a body, as many times.
@@ -137,8 +135,9 @@ impl FileBytes {
         ensures len { OnOk result (vec_len self.new.bytes ≡ vec_len self.old.bytes + (8 + 2 * many)) }
     {
         self.words(&[4 + 2 * u16::from(many), 2, head, u16::from(positive)])?;
-        for i in 0..many {
-            self.word(u16::from(first) + u16::from(i))?;
+        let first = u16::from(first);
+        for atom in first..first + u16::from(many) {
+            self.word(atom)?;
         }
         Ok(())
     }

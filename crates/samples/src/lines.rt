@@ -1,4 +1,5 @@
 // The lines that are printed, and the shapes of the cases behind them.
+// A handle and a name go to most functions: each call has a name of its own, so a struct of both would be no plainer.
 use crate::bytes::{Claim, FileBytes, Order, Records};
 use console::answer::answer;
 use console::line::write_line;
@@ -26,7 +27,7 @@ pub struct Tried {
 }
 
 // Which of the two files a case gives; the other one is small and lawful.
-// No closure: a caller names its side in one word, and the other file stands in one place.
+// No closure in its place would be plainer: a caller names its side in one word.
 #[derive(Clone, Copy)]
 pub enum Side {
     Program,

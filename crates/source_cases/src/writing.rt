@@ -17,7 +17,7 @@ use writer::write;
 // What each byte of an output is before it is written.
 const OLD: u8 = 0xAA;
 
-// What the writer answered, and the output afterwards.
+// What the writer answered, and the output afterwards; all of it is kept, since the bytes past those written are shown too.
 #[derive(Drop)]
 pub struct Output {
     answer: Result<usize, Refusal>,
@@ -55,10 +55,7 @@ impl Output {
     fn split(&self) -> usize
         ensures bound { result ≤ vec_len self.now.bytes }
     {
-        match self.answer {
-            Ok(size) => size.min(self.bytes.len()),
-            Err(_) => 0,
-        }
+        self.answer.unwrap_or(0).min(self.bytes.len())
     }
 }
 

@@ -3,4 +3,3 @@ pub mod Atoms
 pub mod Rules
 pub mod Files
 pub mod Trips
-pub mod Spans

@@ -5,11 +5,12 @@ use Rattle.refusal.specs.declared.Reason.{Reason}
 use Rattle.refusal.specs.declared.Reason.TheVariants.{Limit, Output}
 use Rattle.refusal.specs.declared.Layer.TheVariants.{Writer}
 use Rattle.refusal.specs.declared.Refusal.{Refusal}
+use Rattle.refusal.specs.Refused.{refused}
 use Rattle.rules.specs.Program.{Program}
 use Rattle.program.specs.Encoding.{head_bytes, rule_bytes, encoding}
 
 abbrev pub refusal_at : Reason → ℕ → Refusal
-refusal_at reason place = record { reason = reason; layer = Writer; place = place }
+refusal_at reason place = refused Writer reason place
 
 -- how long the file is, within the limits of a file: first that of rules, then that of bytes
 abbrev pub size_checked : Program → Result ℕ Refusal

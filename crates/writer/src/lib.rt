@@ -65,7 +65,7 @@ fn write_file<S: RuleSource>(source: &S, out: &mut [u8])
 }
 
 // Writes the head and the rules, each record where the one before it ends, and tells where the last ends.
-// The place is carried by hand: a record is written to the output that is lent from its first byte on.
+// The place is carried by hand: of a `fold` whose closure writes to the output it was not proved what the output then holds.
 fn write_rules<S: RuleSource>(source: &S, out: &mut [u8]) -> usize
     requires room { length (encoding (S.meaning source.now)) ≤ length out.old }
     ensures value { result ≡ length (before_end (S.meaning source.now)) }

@@ -6,7 +6,7 @@ use Rattle.std.proofs.lemmas.Iterator.Consumers.{YieldsList-at, sum_by_from_yiel
 use Rattle.program.specs.Encoding.{rule_bytes, encoding}
 use Rattle.writer.specs.Parts.{rule_or_empty}
 use Rattle.writer.proofs.Files.{sizes, file_bound}
-use Rattle.writer.proofs.Spans.{YieldsList-from_span}
+use Rattle.rules.proofs.Ranges.{numbers_of}
 use Rattle.writer.proofs.file_size.Given as given
 use Rattle.writer.proofs.file_size.Goals as goal
 
@@ -15,7 +15,7 @@ sum-requires-clause-fits g c =
     let p = g.S.RuleSource.meaning c.args.source.now in
     let lawful = g.S.RuleSource.lawful c.args.source.now in
     fits_by_from_yields_list (λ k. length (rule_bytes (rule_or_empty p k))) (range_with_len 1 (length p.rules)) c.map.result _
-    (YieldsList-from_map _ (λ k. length (rule_bytes (rule_or_empty p k))) (YieldsList-at c.map.ensures.source (YieldsList-from_span (length p.rules) c.new.ensures.start (c.new.ensures.end ∙ c.rules.ensures.value) c.new.ensures.exhausted)) c.map.ensures.closure (λ x r q k. search rules))
+    (YieldsList-from_map _ (λ k. length (rule_bytes (rule_or_empty p k))) (YieldsList-at c.map.ensures.source (numbers_of 1 (length p.rules) (length p.rules) c.new.ensures.start (c.new.ensures.end ∙ c.rules.ensures.value) c.new.ensures.exhausted (omega arith))) c.map.ensures.closure (λ x r q k. search rules))
     (omega (arith, sizes p, file_bound p lawful))
 
 summed : (g : given.Over) (c : goal.After-sum g) → 12 + c.sum.result ≡ length (encoding (g.S.RuleSource.meaning c.args.source.now))
@@ -23,7 +23,7 @@ summed g c =
     let p = g.S.RuleSource.meaning c.args.source.now in
     ap (λ n. 12 + n)
     (sum_by_from_yields_List (λ k. length (rule_bytes (rule_or_empty p k))) (range_with_len 1 (length p.rules)) c.map.result c.sum.result c.sum.ensures.ran
-    (YieldsList-from_map _ (λ k. length (rule_bytes (rule_or_empty p k))) (YieldsList-at c.map.ensures.source (YieldsList-from_span (length p.rules) c.new.ensures.start (c.new.ensures.end ∙ c.rules.ensures.value) c.new.ensures.exhausted)) c.map.ensures.closure (λ x r q k. search rules)))
+    (YieldsList-from_map _ (λ k. length (rule_bytes (rule_or_empty p k))) (YieldsList-at c.map.ensures.source (numbers_of 1 (length p.rules) (length p.rules) c.new.ensures.start (c.new.ensures.end ∙ c.rules.ensures.value) c.new.ensures.exhausted (omega arith))) c.map.ensures.closure (λ x r q k. search rules)))
     ∙ sizes p
 
 pub overflow_add-result : goal.overflow_add-result
