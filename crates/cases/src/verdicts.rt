@@ -225,7 +225,7 @@ pub fn print_all(rt: &HostRuntime) -> io::Result<()> {
 
 // How many pairs of levels below 8, for 2 and 3, are accepted.
 fn print_accepted(rt: &HostRuntime, name: &str, order: Order) -> io::Result<()> {
-    // counted by hand: a case may fail for want of memory, which `filter` with `count` does not pass on
+    // counted by hand: a case may fail for want of memory, and `try_fold`, which passes that on, wraps the count in each turn
     let mut accepted = 0u32;
     for pair in 0..64u64 {
         if is_accepted(rt.alloc(), order, pair / 8, pair % 8)? {

@@ -35,17 +35,20 @@ pub fn answer_over<S: RuleSource>(source: &S, certificate: &[u8]) -> Result<Verd
 {
     let mut marks = [0u8; TABLE];
     let stated = read_kind(certificate, source.atoms())?;
+    let kind = LevelKind::try_from(stated).map_err(|_| Layer::Certificate.refuse(
+        Reason::LevelKind,
+        0,
+    ))?;
     // an arm for each kind, since it was not proved that an array of entries of any level type fits in memory
-    match LevelKind::try_from(stated) {
-        Ok(LevelKind::Numbers) => {
+    match kind {
+        LevelKind::Numbers => {
             let mut entries: [Entry<Number>; TABLE] = [None; TABLE];
             judge_within::<S, Number>(source, certificate, &mut marks, &mut entries)
         }
-        Ok(LevelKind::Routes) => {
+        LevelKind::Routes => {
             let mut entries: [Entry<Route>; TABLE] = [None; TABLE];
             judge_within::<S, Route>(source, certificate, &mut marks, &mut entries)
         }
-        Err(_) => Err(Layer::Certificate.refuse(Reason::LevelKind, 0)),
     }
 }
 

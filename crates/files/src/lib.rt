@@ -22,7 +22,8 @@ pub fn read_front(rt: &HostRuntime, name: &str) -> Result<Vec<u8>, AllocError>
 }
 
 // Opens a file, reads until the buffer is full or the file ends, and answers how many bytes there are.
-// A loop over `read`: an error of `read_to_end` does not tell a read that fails from memory that runs out.
+// A loop over `read`: of an error of `read_to_end` for want of memory, it is not told whether a read failed or the vector could
+// not grow.
 fn read_into(rt: &HostRuntime, name: &str, buffer: &mut [u8]) -> io::Result<usize>
     ensures bound { IfOk result (λ filled. filled ≤ length buffer.old) }
 {

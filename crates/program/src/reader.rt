@@ -21,6 +21,9 @@ pub const MAX_ATOMS: u16 = 4096;
 
 pub const MAX_RULES: u16 = 8000;
 
+// The index has a place for each rule.
+const STARTS: usize = MAX_RULES as usize;
+
 // What the head record states.
 #[derive(Clone, Copy)]
 pub struct FileHead {
@@ -40,8 +43,8 @@ pub struct RuleRecord {
 pub struct Index {
     atoms: u16,
     count: u16,
-    // a fixed table, since a reader allocates nothing, and `Copy` with it, since callers copy an index
-    starts: [u16; 8000],
+    // a table with a count beside it: an index is `Copy`, on which callers rely, and an `ArrayVec` is not
+    starts: [u16; STARTS],
 }
 
 impl Index {
@@ -203,7 +206,7 @@ fn read_rules(records: Rest<'_>, head: FileHead) -> Result<Index, Refusal>
     requires small { records.place + length records.bytes.now ≤ 65000 }
     ensures value { result ≡ indexed_from head.atoms (replicate 8000 0) 0 records.entry.place (rules_from 8000 head.atoms head.rules 0 records.entry.bytes.now records.entry.place) }
 {
-    let mut starts = [0u16; 8000];
+    let mut starts = [0u16; STARTS];
     let mut count = 0u16;
     let mut rest = records;
     'records: while let Some(rule) = open_record(rest)? {

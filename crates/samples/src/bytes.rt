@@ -98,9 +98,7 @@ impl FileBytes {
     pub fn word(&mut self, value: u16) -> Result<(), AllocError>
         ensures len { OnOk result (vec_len self.new.bytes ≡ vec_len self.old.bytes + 2) }
     {
-        let [low, high] = value.to_le_bytes();
-        self.byte(low)?;
-        self.byte(high)
+        self.bytes.extend_from_slice(&value.to_le_bytes())
     }
 
     // Adds some numbers of two bytes.

@@ -90,6 +90,7 @@ fn check_tables(atoms: u16, marks: &[u8], entries: usize) -> Result<(), Refusal>
 {
     check_length(atoms, marks.len())?;
     check_length(atoms, entries)?;
+    // a `match`: no method turns a `Some` into an `Err`, and `map_or` says it no plainer
     match find_unlawful(marks) {
         Some(place) => Err(Layer::Survey.refuse(Reason::MarkByte, place)),
         None => Ok(()),
@@ -111,7 +112,7 @@ impl<S: RuleSource> MarkedSet<'_, S> {
         (1..=self.source.rules()).find(|rule| self.is_broken(*rule))
     }
 
-    // Is the rule there, and broken?
+    // Is the rule there, and broken? Head 0 is a constraint's, as in files and definitions, so a head is a number and no enum.
     fn is_broken(&self, rule: u16) -> bool
         ensures value { result ≡ is_broken (marked self.now.marks.now) (rule_at (S.meaning self.now.source.now) rule) }
     {
@@ -133,7 +134,7 @@ impl<S: RuleSource> MarkedSet<'_, S> {
     fn lowest_ungrounded<L: Level>(&self, levels: &LevelTable<L>) -> Option<u16>
         ensures value { result ≡ lowest (ungrounded L.below (S.meaning self.now.source.now) self.now.marks.now levels.now.entries.now) (S.meaning self.now.source.now).atoms }
     {
-        // Stays three labelled loops, so that each way out names the loop that it leaves.
+        // Three labelled loops by a rule of the project: each way out names the loop that it leaves.
         'atoms: for atom in 1..=self.source.atoms() {
             if !is_marked(self.marks, atom) {
                 continue 'atoms;
