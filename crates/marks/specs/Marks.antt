@@ -1,5 +1,6 @@
 -- What a mark table says: byte a - 1 is that of the atom a; 0 is out, 1 is in, 2 is in and doubted. Assumes nothing.
-use Rattle.std.specs.Prelude.{ℕ, ◌-◌, Bool, cond, not, ◌||◌, List, length, Option, ◌==◌, nat_le, slice_index, slice_set}
+use Rattle.std.specs.Prelude.{ℕ, ◌-◌, Bool, cond, not, ◌||◌, List, length, Option, ◌==◌, nat_le, slice_index}
+use Rattle.tables.specs.Entries.{with_put}
 use Rattle.rules.specs.Tests.{lowest, tally}
 
 -- the byte has a meaning
@@ -28,4 +29,4 @@ marked_count marks = tally (marked marks) (length marks)
 
 -- the marks with the atom a in; as they are for 0 and past the end
 abbrev pub with_in : List ℕ → ℕ → List ℕ
-with_in marks a = cond (a == 0) marks (slice_set marks (a - 1) 1)
+with_in marks a = with_put marks a 1
