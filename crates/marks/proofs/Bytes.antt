@@ -1,17 +1,22 @@
 -- Lemmas: what is asked of the atoms in turn, as it is asked of the list of their bytes.
-use Rattle.std.proofs.Common.{◌≡◌, ℕ, suc, ◌+◌, ◌-◌, true, false, not, eqb, Bool, List, [], ◌∷◌, length, get_or, cond, Some, option_map, sym, refl, ap, ◌∙◌, arith}
+use Rattle.std.proofs.Common.{◌≡◌, ℕ, suc, ◌+◌, ◌-◌, ◌<◌, true, false, not, eqb, Bool, List, [], ◌∷◌, length, get_or, cond, Some, option_map, sym, refl, ap, ◌∙◌, arith}
 use Rattle.std.specs.List.{count_by, position, position_from}
 use Rattle.std.proofs.lemmas.Bool.{ne_eqb}
+use Rattle.std.proofs.lemmas.Bool.Decides.{nat_tests}
+use Rattle.std.proofs.lemmas.List.{get_or_past}
 use Rattle.std.proofs.lemmas.List.Sums.{sum_by-cons}
 use Rattle.std.proofs.lemmas.Iterator.Adapters.{position_from-zero}
-use Rattle.rules.specs.Tests.{first_from, tally_from}
-use Rattle.marks.specs.Marks.{byte_of, in_byte, lawful_byte, lowest_unlawful, marked_count}
+use Rattle.rules.specs.Tests.{first_from, tally, tally_from}
+use Rattle.marks.specs.Marks.{byte_of, lawful_byte, lowest_unlawful}
 
 pub byte_at : (marks : List ℕ) (i : ℕ) → byte_of marks (i + 1) ≡ get_or marks i 0
 byte_at marks i =
     let some : eqb (i + 1) 0 ≡ false = ne_eqb (i + 1) 0 (λ e. omega arith) in
     let place : i + 1 - 1 ≡ i = omega arith in
     rw (some, place)
+
+pub byte_past : (marks : List ℕ) (a : ℕ) → length marks < a → byte_of marks a ≡ 0
+byte_past marks a past = grind (arith, nat_tests, get_or_past marks (a - 1) 0 (omega arith))
 
 -- the test of each number after i is that of the byte at its place
 module _ (test : ℕ → Bool) (p : ℕ → Bool) where
@@ -36,8 +41,9 @@ module _ (marks : List ℕ) where
       let next : a ≡ k + 1 = omega arith in
       rw next (byte_at marks k)
 
-  pub counted : count_by in_byte marks ≡ marked_count marks
-  counted = sym (tally_by _ in_byte marks 0 (λ a k e. ap in_byte (byte_after a k e)))
+  -- as many bytes pass as there are atoms whose byte does
+  pub counted : (p : ℕ → Bool) → count_by p marks ≡ tally (λ a. p (byte_of marks a)) (length marks)
+  counted p = sym (tally_by _ p marks 0 (λ a k e. ap p (byte_after a k e)))
 
   pub found : option_map (λ k. k + 1) (position (λ b. not (lawful_byte b)) marks) ≡ lowest_unlawful marks
   found =

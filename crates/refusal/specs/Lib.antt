@@ -1,4 +1,4 @@
 pub mod Numbers
+pub mod Refused
 pub mod Tables
 pub mod Results
-pub mod Refused

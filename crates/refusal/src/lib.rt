@@ -4,7 +4,7 @@
 ghost use Rattle.std.specs.Prelude.{◌≡◌, Some};
 ghost use Rattle.refusal.specs.Numbers.{number_of, letter_of};
 ghost use Rattle.refusal.specs.Refused.{refused, refusal_text};
-ghost use Rattle.refusal.specs.Tables.{length_checked};
+ghost use Rattle.refusal.specs.Tables.{length_checked, atom_checked};
 
 use std::fmt;
 
@@ -121,4 +121,14 @@ pub fn check_length(n: u16, entries: usize) -> Result<(), Refusal>
         return Ok(());
     }
     Err(Layer::Survey.refuse(Reason::TableLength, entries))
+}
+
+// Refuses an atom that a call names and that is not one of 1 to n.
+pub fn check_atom(n: u16, atom: u16) -> Result<(), Refusal>
+    ensures value { result ≡ atom_checked n atom }
+{
+    if 1 <= atom && atom <= n {
+        return Ok(());
+    }
+    Err(Layer::Survey.refuse(Reason::CallAtom, usize::from(atom)))
 }

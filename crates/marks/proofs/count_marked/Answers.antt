@@ -8,4 +8,4 @@ use Rattle.marks.proofs.count_marked.Goals as goal
 pub returns : goal.returns
 returns c =
     let counts : c.count.result ≡ count_by in_byte c.args.marks.now = search rules in
-    record { value = counts ∙ counted c.args.marks.now }
+    record { value = counts ∙ counted c.args.marks.now in_byte }
