@@ -1,5 +1,5 @@
--- The first of the numbers 1 to n that passes, as `find` gives it. Assumes nothing.
-use Rattle.std.proofs.Common.{◌≡◌, ℕ, zero, suc, ◌+◌, ◌-◌, Bool, true, false, cond, List, ◌∷◌, length, Some, None, Option, sym, refl, ap, subst, ◌∙◌, arith}
+-- The first of the numbers 1 to n that passes, as `find` gives it, and how many pass, as a filter keeps them. Assumes nothing.
+use Rattle.std.proofs.Common.{◌≡◌, ℕ, zero, suc, ◌+◌, ◌-◌, Bool, true, false, cond, List, ◌∷◌, filter, length, Some, None, Option, sym, refl, ap, subst, ◌∙◌, arith}
 use Rattle.std.specs.List.{find, range_with_len}
 use Rattle.std.specs.Option.{option_map}
 use Rattle.std.specs.Range.{range_inclusive_start, range_inclusive_end, range_inclusive_exhausted, range_inclusive_len}
@@ -7,7 +7,7 @@ use Rattle.std.proofs.iter.runs.Sources.{nat_range_inclusive_steps}
 use Rattle.std.proofs.lemmas.Iterator.{YieldsList}
 use Rattle.std.proofs.lemmas.Iterator.Consumers.{YieldsList-from_shown}
 use Rattle.std.proofs.lemmas.List.FromFn.{length-range_with_len}
-use Rattle.rules.specs.Tests.{first_from, lowest}
+use Rattle.rules.specs.Tests.{first_from, lowest, tally_from}
 
 find_first : (test : ℕ → Bool) (from many : ℕ) → find test (range_with_len from many) ≡ first_from test from many
 find_first test from zero = refl
@@ -48,3 +48,11 @@ numbers_of {s} a b n start end fresh size =
 pub lowest_found : (test : ℕ → Bool) (n : ℕ) (answer : Option ℕ) → option_map (λ k. k) answer ≡ find test (range_with_len 1 n) → answer ≡ lowest test n
 lowest_found test n None e = e ∙ find_first test 1 n
 lowest_found test n (Some k) e = e ∙ find_first test 1 n
+
+-- a filter keeps as many numbers as pass
+pub length-filter_numbers : (test : ℕ → Bool) (from many : ℕ) → length (filter test (range_with_len from many)) ≡ tally_from test from many
+length-filter_numbers test from zero = refl
+length-filter_numbers test from (suc many) =
+    let kept = filter test (range_with_len (from + 1) many) in
+    let here : length (cond (test from) (from ∷ kept) kept) ≡ cond (test from) 1 0 + length kept = elim (test from) as (λ t. length (cond t (from ∷ kept) kept) ≡ cond t 1 0 + length kept) [ true ↦ omega arith | false ↦ omega arith ] in
+    here ∙ ap (λ m. cond (test from) 1 0 + m) (length-filter_numbers test (from + 1) many)

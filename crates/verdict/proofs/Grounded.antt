@@ -1,43 +1,19 @@
 -- What judge accepts is a stable set. Assumes nothing.
-use Rattle.std.proofs.Common.{◌≡◌, ℕ, zero, suc, ◌+◌, ◌<◌, Bool, true, false, not, ◌&&◌, ◌||◌, eqb, List, length, Some, None, Option, sym, refl, ap, ◌∙◌, ⊎_elim, arith}
+use Rattle.std.proofs.Common.{◌≡◌, ℕ, zero, suc, ◌+◌, ◌<◌, Bool, true, false, not, ◌&&◌, eqb, List, length, Some, None, Option, sym, refl, ap, ◌∙◌, ⊎_elim, arith}
 use Rattle.std.specs.List.{AllByRecursion}
 use Rattle.std.proofs.ByRecursion.{All-weaker}
-use Rattle.std.proofs.lemmas.Bool.{and_cases, and_from, and_left, and_parts, and_right, both_ways, or_parts, not-false, not_from_false, eqb-true, ne_eqb}
+use Rattle.std.proofs.lemmas.Bool.{and_cases, and_from, and_parts, and_right, both_ways, not-false, not_from_false, eqb-true, ne_eqb}
 use Rattle.rules.specs.Program.{Rule, Program}
-use Rattle.rules.specs.Questions.{rule_at}
 use Rattle.rules.specs.Stable.{Atoms, Stable, body, broken, broken_constraint, stays, supports_with}
 use Rattle.rules.specs.Tests.{all, any, lowest, tally}
-use Rattle.rules.proofs.Parts.{each_rule}
-use Rattle.rules.proofs.Reduct.{Heeds, closed_from_rules, rules_from_closed}
+use Rattle.rules.proofs.Reduct.{Heeds, closed_from_rules, heeds_unbroken, rules_from_closed, unbroken_constraint}
 use Rattle.rules.proofs.Tests.{all_both, all_from_each, each_from_all, any_from_none, given_by_any, none_from_lowest, tally_less}
 use Rattle.levels.specs.Table.{level_of}
 use Rattle.marks.specs.Marks.{marked}
-use Rattle.verdict.proofs.Marked.{marked_above, marked_upto}
-use Rattle.verdict.specs.Judge.{both_below, grounded, is_broken, lower, lowest_broken, ungrounded}
-
--- no rule is broken, said of each rule
-none_broken : (p : Program) (set : Atoms) → lowest_broken p set ≡ None → AllByRecursion (λ r. broken set r ≡ false) p.rules
-none_broken p set e =
-    each_rule (λ r. broken set r ≡ false) p
-    (λ k r at some within. sym (ap (is_broken set) at) ∙ none_from_lowest (λ k. is_broken set (rule_at p k)) (length p.rules) e k some within)
-
-module _ (set : Atoms) (r : Rule) where
-  -- a rule that is not broken and stays in the reduct
-  heeds_unbroken : broken set r ≡ false → stays set r ≡ true → Heeds set r
-  heeds_unbroken whole stay positive =
-      let parts = and_parts (not (eqb r.head 0)) (not (any set r.negative)) stay in
-      let holds : body set r ≡ true = and_from (all set r.positive) (not (any set r.negative)) positive parts.1 in
-      ⊎_elim
-      (λ e. absurd (both_ways (body set r) e holds))
-      (λ e. not-false (set r.head) (or_parts (eqb r.head 0) (not (set r.head)) e).1)
-      (and_cases (body set r) (eqb r.head 0 || not (set r.head)) whole)
-
-  unbroken_constraint : broken set r ≡ false → broken_constraint set r ≡ false
-  unbroken_constraint whole =
-      ⊎_elim
-      (λ e. and_right (eqb r.head 0) (body set r) e)
-      (λ e. and_left (eqb r.head 0) (body set r) (or_parts (eqb r.head 0) (not (set r.head)) e).0)
-      (and_cases (body set r) (eqb r.head 0 || not (set r.head)) whole)
+use Rattle.marks.proofs.Marked.{marked_above, marked_upto}
+use Rattle.support.specs.Rules.{lowest_broken}
+use Rattle.support.proofs.Broken.{none_broken}
+use Rattle.verdict.specs.Judge.{both_below, grounded, lower, ungrounded}
 
 module _ {L : Type 0} (below : L → L → Bool) (irrefl : (x : L) → below x x ≡ false) (trans : (x y z : L) → below x y ≡ true → below y z ≡ true → below x z ≡ true) where
   both_below_irrefl : (x : Option L) → both_below below x x ≡ false
@@ -67,13 +43,13 @@ module _ {L : Type 0} (below : L → L → Bool) (irrefl : (x : L) → below x x
         (and_right (marked marks b) (lower below entries b b) (both_below_irrefl (level_of entries b)))
         (and_from (marked marks b) (lower below entries a b) into low)
 
-    module _ (ground : lowest (ungrounded below p marks entries) p.atoms ≡ None) where
-      is_grounded : (a : ℕ) → marked marks a ≡ true → grounded below p marks entries a ≡ true
+    module _ (ground : lowest (ungrounded below p (marked marks) entries) p.atoms ≡ None) where
+      is_grounded : (a : ℕ) → marked marks a ≡ true → grounded below p (marked marks) entries a ≡ true
       is_grounded a into =
           ⊎_elim
           (λ e. absurd (both_ways (marked marks a) e into))
-          (λ e. not-false (grounded below p marks entries a) e)
-          (and_cases (marked marks a) (not (grounded below p marks entries a)) (none_from_lowest (ungrounded below p marks entries) p.atoms ground a (marked_above marks a into) (omega (arith, marked_upto marks a into))))
+          (λ e. not-false (grounded below p (marked marks) entries a) e)
+          (and_cases (marked marks a) (not (grounded below p (marked marks) entries a)) (none_from_lowest (ungrounded below p (marked marks) entries) p.atoms ground a (marked_above marks a into) (omega (arith, marked_upto marks a into))))
 
       module _ (other : Atoms) (closed : AllByRecursion (λ r. stays (marked marks) r ≡ true → Heeds other r) p.rules) where
         -- a rule that supports a by lower atoms, where those are in the other set
@@ -101,7 +77,7 @@ module _ {L : Type 0} (below : L → L → Bool) (irrefl : (x : L) → below x x
             (supported a (λ b in' under'. within_bound bound b (omega (arith, depth_less a b in' under')) in')) p.rules closed)
 
     -- no rule broken and no marked atom ungrounded
-    pub accepted_is_stable : lowest_broken p (marked marks) ≡ None → lowest (ungrounded below p marks entries) p.atoms ≡ None → Stable p (marked marks)
+    pub accepted_is_stable : lowest_broken p (marked marks) ≡ None → lowest (ungrounded below p (marked marks) entries) p.atoms ≡ None → Stable p (marked marks)
     accepted_is_stable whole ground = record {
       least = (
         closed_from_rules (marked marks) (marked marks) p.rules (All-weaker (λ r. broken (marked marks) r ≡ false) (λ r. stays (marked marks) r ≡ true → Heeds (marked marks) r) (heeds_unbroken (marked marks)) p.rules (none_broken p (marked marks) whole)),

@@ -1,5 +1,3 @@
 pub mod Grounded
-pub mod Marked
 pub mod Steps
-pub mod Support
 pub mod Accepted

@@ -1,16 +1,14 @@
 -- What judge answers. Assumes nothing.
-use Rattle.std.specs.Prelude.{◌≡◌, ℕ, Bool, true, false, cond, not, ◌&&◌, List, ◌++◌, length, is_some, Some, None, Ok, Err, codes, decimal, Option, Result, ◌==◌}
-use Rattle.std.specs.Option.{option_map, unwrap_or}
-use Rattle.refusal.specs.Tables.{wrong_length}
-use Rattle.refusal.specs.declared.Reason.TheVariants.{MarkByte}
-use Rattle.refusal.specs.declared.Layer.TheVariants.{Survey}
+use Rattle.std.specs.Prelude.{◌≡◌, ℕ, Bool, false, not, ◌&&◌, List, ◌++◌, length, is_some, Some, None, Ok, Err, codes, decimal, Option, Result}
+use Rattle.refusal.specs.Tables.{both_checked, length_checked}
 use Rattle.refusal.specs.declared.Refusal.{Refusal}
-use Rattle.rules.specs.Program.{Rule, Program}
-use Rattle.rules.specs.Questions.{rule_at}
-use Rattle.rules.specs.Stable.{Atoms, Stable, body, broken, supports, supports_with}
-use Rattle.rules.specs.Tests.{any, lowest}
+use Rattle.rules.specs.Program.{Program}
+use Rattle.rules.specs.Stable.{Atoms, Stable, supports_with}
+use Rattle.rules.specs.Tests.{any, lowest, tally}
 use Rattle.levels.specs.Table.{level_of}
-use Rattle.marks.specs.Marks.{marked, lowest_unlawful, marked_count}
+use Rattle.marks.specs.Calls.{bytes_checked}
+use Rattle.marks.specs.Marks.{marked, lowest_unlawful}
+use Rattle.support.specs.Rules.{lowest_broken}
 use Rattle.verdict.specs.declared.Verdict.{Verdict}
 use Rattle.verdict.specs.declared.Verdict.TheVariants.{Broken, Unlevelled, Ungrounded, Accepted}
 
@@ -32,38 +30,13 @@ number_of (Accepted m) = m
 abbrev pub text_of : Verdict → List ℕ
 text_of v = word_of v ++ (codes " " ++ decimal (number_of v))
 
--- the byte of the atom a has no meaning
-abbrev pub wrong_byte : ℕ → Refusal
-wrong_byte a = record { reason = MarkByte; layer = Survey; place = a }
-
-abbrev pub bytes_checked : Option ℕ → Result (Unit {0}) Refusal
-bytes_checked (Some a) = Err (wrong_byte a)
-bytes_checked None = Ok tt
-
 -- the tables of n atoms, with a level table of `size` entries: the length of the marks, that of the levels, then the mark bytes
 abbrev pub tables_checked : ℕ → List ℕ → ℕ → Result (Unit {0}) Refusal
-tables_checked n marks size = cond (length marks == n) (cond (size == n) (bytes_checked (lowest_unlawful marks)) (Err (wrong_length size))) (Err (wrong_length (length marks)))
-
--- the body of rule k is true; that of an absent rule is empty
-abbrev pub body_at : Program → Atoms → ℕ → Bool
-body_at p set k = unwrap_or (option_map (body set) (rule_at p k)) true
-
--- rule k supports the atom a; an absent rule supports none
-abbrev pub supports_at : Program → Atoms → ℕ → ℕ → Bool
-supports_at p set a k = unwrap_or (option_map (supports set a) (rule_at p k)) false
-
--- a rule that may be absent is there and broken
-abbrev pub is_broken : Atoms → Option Rule → Bool
-is_broken set None = false
-is_broken set (Some r) = broken set r
-
--- the lowest broken rule
-abbrev pub lowest_broken : Program → Atoms → Option ℕ
-lowest_broken p set = lowest (λ k. is_broken set (rule_at p k)) (length p.rules)
+tables_checked n marks size = both_checked (length_checked n (length marks)) (both_checked (length_checked n size) (bytes_checked (lowest_unlawful marks)))
 
 -- what judge accepts is a stable set
-abbrev pub AcceptsOnlyStable : Program → List ℕ → Result Verdict Refusal → Type 0
-AcceptsOnlyStable p marks r = (m : ℕ) → r ≡ Ok (Accepted m) → Stable p (marked marks)
+abbrev pub AcceptsOnlyStable : Program → Atoms → Result Verdict Refusal → Type 0
+AcceptsOnlyStable p set r = (m : ℕ) → r ≡ Ok (Accepted m) → Stable p set
 
 module _ {L : Type 0} (below : L → L → Bool) where
   -- both levels are there, and the first is below the second
@@ -76,41 +49,41 @@ module _ {L : Type 0} (below : L → L → Bool) where
   abbrev pub lower : List (Option L) → ℕ → ℕ → Bool
   lower entries a b = both_below (level_of entries b) (level_of entries a)
 
-  -- a is marked and has no level
-  abbrev pub unlevelled : List ℕ → List (Option L) → ℕ → Bool
-  unlevelled marks entries a = marked marks a && not (is_some (level_of entries a))
+  -- a is in the set and has no level
+  abbrev pub unlevelled : Atoms → List (Option L) → ℕ → Bool
+  unlevelled set entries a = set a && not (is_some (level_of entries a))
 
   -- some rule supports a with all its positive atoms' levels below a's own
-  abbrev pub grounded : Program → List ℕ → List (Option L) → ℕ → Bool
-  grounded p marks entries a = any (supports_with (lower entries a) (marked marks) a) p.rules
+  abbrev pub grounded : Program → Atoms → List (Option L) → ℕ → Bool
+  grounded p set entries a = any (supports_with (lower entries a) set a) p.rules
 
-  -- a is marked, and no rule supports it with all its positive atoms' levels below a's own
-  abbrev pub ungrounded : Program → List ℕ → List (Option L) → ℕ → Bool
-  ungrounded p marks entries a = marked marks a && not (grounded p marks entries a)
+  -- a is in the set, and no rule supports it with all its positive atoms' levels below a's own
+  abbrev pub ungrounded : Program → Atoms → List (Option L) → ℕ → Bool
+  ungrounded p set entries a = set a && not (grounded p set entries a)
 
-  -- where every marked atom is levelled
-  abbrev pub by_ground : Program → List ℕ → List (Option L) → Option ℕ → Verdict
-  by_ground p marks entries (Some a) = Ungrounded a
-  by_ground p marks entries None = Accepted (marked_count marks)
+  -- where every atom of the set is levelled
+  abbrev pub by_ground : Program → Atoms → List (Option L) → Option ℕ → Verdict
+  by_ground p set entries (Some a) = Ungrounded a
+  by_ground p set entries None = Accepted (tally set p.atoms)
 
   -- where no rule is broken
-  abbrev pub by_levels : Program → List ℕ → List (Option L) → Option ℕ → Verdict
-  by_levels p marks entries (Some a) = Unlevelled a
-  by_levels p marks entries None = by_ground p marks entries (lowest (ungrounded p marks entries) p.atoms)
+  abbrev pub by_levels : Program → Atoms → List (Option L) → Option ℕ → Verdict
+  by_levels p set entries (Some a) = Unlevelled a
+  by_levels p set entries None = by_ground p set entries (lowest (ungrounded p set entries) p.atoms)
 
-  abbrev pub by_rules : Program → List ℕ → List (Option L) → Option ℕ → Verdict
-  by_rules p marks entries (Some k) = Broken k
-  by_rules p marks entries None = by_levels p marks entries (lowest (unlevelled marks entries) p.atoms)
+  abbrev pub by_rules : Program → Atoms → List (Option L) → Option ℕ → Verdict
+  by_rules p set entries (Some k) = Broken k
+  by_rules p set entries None = by_levels p set entries (lowest (unlevelled set entries) p.atoms)
 
-  -- the first that applies: a broken rule, a marked atom without a level, an ungrounded atom, acceptance
-  abbrev pub verdict : Program → List ℕ → List (Option L) → Verdict
-  verdict p marks entries = by_rules p marks entries (lowest_broken p (marked marks))
+  -- the first that applies: a broken rule, an atom of the set without a level, an ungrounded atom, acceptance
+  abbrev pub verdict : Program → Atoms → List (Option L) → Verdict
+  verdict p set entries = by_rules p set entries (lowest_broken p set)
 
-  -- where both tables have one entry for each atom
-  abbrev pub by_bytes : Program → List ℕ → List (Option L) → Option ℕ → Result Verdict Refusal
-  by_bytes p marks entries (Some a) = Err (wrong_byte a)
-  by_bytes p marks entries None = Ok (verdict p marks entries)
+  -- where the tables may be refused
+  abbrev pub by_tables : Program → Atoms → List (Option L) → Result (Unit {0}) Refusal → Result Verdict Refusal
+  by_tables p set entries (Ok u) = Ok (verdict p set entries)
+  by_tables p set entries (Err e) = Err e
 
   -- what judge answers: the lengths of the marks and of the levels are checked first, then the mark bytes
   abbrev pub judged : Program → List ℕ → List (Option L) → Result Verdict Refusal
-  judged p marks entries = cond (length marks == p.atoms) (cond (length entries == p.atoms) (by_bytes p marks entries (lowest_unlawful marks)) (Err (wrong_length (length entries)))) (Err (wrong_length (length marks)))
+  judged p marks entries = by_tables p (marked marks) entries (tables_checked p.atoms marks (length entries))

@@ -2,18 +2,18 @@
 #![tactic(auto)]
 
 ghost use Rattle.std.specs.Prelude.{◌≡◌, Some};
-ghost use Rattle.rules.specs.Questions.{rule_at, positive_part, negative_part};
-ghost use Rattle.rules.specs.Tests.{all, any, lowest};
+ghost use Rattle.rules.specs.Tests.{lowest};
 ghost use Rattle.marks.specs.Marks.{marked};
-ghost use Rattle.verdict.specs.Judge.{word_of, number_of, text_of, tables_checked, body_at, supports_at, is_broken, lowest_broken, both_below, unlevelled, ungrounded, judged, AcceptsOnlyStable};
+ghost use Rattle.verdict.specs.Judge.{word_of, number_of, text_of, tables_checked, both_below, unlevelled, ungrounded, judged, AcceptsOnlyStable};
 
 use levels::order::Level;
 use levels::table::LevelTable;
-use marks::{count_marked, find_unlawful, is_marked};
-use refusal::{Layer, Reason, Refusal, check_length};
+use marks::{check_bytes, count_marked, is_marked};
+use refusal::{Refusal, check_length};
 use rules::RuleSource;
 use rules::part::{Part, atoms_of};
 use std::fmt;
+use support::MarkedSet;
 
 // What judge answers, each with a number: a rule, an atom, an atom, how many atoms are marked.
 #[derive(Clone, Copy)]
@@ -67,7 +67,7 @@ pub fn judge<S: RuleSource, L: Level>(
     levels: &LevelTable<L>,
 ) -> Result<Verdict, Refusal>
     ensures value { result ≡ judged L.below (S.meaning source.now) marks.now levels.now.entries.now }
-    ensures accepted_is_stable { AcceptsOnlyStable (S.meaning source.now) marks.now result }
+    ensures accepted_is_stable { AcceptsOnlyStable (S.meaning source.now) (marked marks.now) result }
 {
     let atoms = source.atoms();
     check_tables(atoms, marks, levels.len())?;
@@ -78,7 +78,7 @@ pub fn judge<S: RuleSource, L: Level>(
     if let Some(atom) = lowest_unlevelled(atoms, marks, levels) {
         return Ok(Verdict::Unlevelled(atom));
     }
-    if let Some(atom) = set.lowest_ungrounded(levels) {
+    if let Some(atom) = lowest_ungrounded(&set, levels) {
         return Ok(Verdict::Ungrounded(atom));
     }
     Ok(Verdict::Accepted(count_marked(marks)))
@@ -90,83 +90,41 @@ fn check_tables(atoms: u16, marks: &[u8], entries: usize) -> Result<(), Refusal>
 {
     check_length(atoms, marks.len())?;
     check_length(atoms, entries)?;
-    // a `match`: no method turns a `Some` into an `Err`, and `map_or` says it no plainer
-    match find_unlawful(marks) {
-        Some(place) => Err(Layer::Survey.refuse(Reason::MarkByte, place)),
-        None => Ok(()),
-    }
+    check_bytes(marks)
 }
 
-// A source and the marks of a set of its atoms.
-#[derive(Drop)]
-struct MarkedSet<'a, S> {
-    source: &'a S,
-    marks: &'a [u8],
-}
-
-impl<S: RuleSource> MarkedSet<'_, S> {
-    // The lowest broken rule.
-    fn lowest_broken(&self) -> Option<u16>
-        ensures value { result ≡ lowest_broken (S.meaning self.now.source.now) (marked self.now.marks.now) }
-    {
-        (1..=self.source.rules()).find(|rule| self.is_broken(*rule))
-    }
-
-    // Is the rule there, and broken? Head 0 is a constraint's, as in files and definitions, so a head is a number and no enum.
-    fn is_broken(&self, rule: u16) -> bool
-        ensures value { result ≡ is_broken (marked self.now.marks.now) (rule_at (S.meaning self.now.source.now) rule) }
-    {
-        self.source
-            .head(rule)
-            .is_some_and(|head| head == 0 || !is_marked(self.marks, head))
-            && self.body_holds(rule)
-    }
-
-    // Is the body of the rule true?
-    fn body_holds(&self, rule: u16) -> bool
-        ensures value { result ≡ body_at (S.meaning self.now.source.now) (marked self.now.marks.now) rule }
-    {
-        atoms_of(self.source, rule, Part::Positive).all(|atom| is_marked(self.marks, atom))
-            && !atoms_of(self.source, rule, Part::Negative).any(|atom| is_marked(self.marks, atom))
-    }
-
-    // The lowest marked atom that no rule supports by atoms of lower levels.
-    fn lowest_ungrounded<L: Level>(&self, levels: &LevelTable<L>) -> Option<u16>
-        ensures value { result ≡ lowest (ungrounded L.below (S.meaning self.now.source.now) self.now.marks.now levels.now.entries.now) (S.meaning self.now.source.now).atoms }
-    {
-        // Three labelled loops by a rule of the project: each way out names the loop that it leaves.
-        'atoms: for atom in 1..=self.source.atoms() {
-            if !is_marked(self.marks, atom) {
-                continue 'atoms;
+// The lowest marked atom that no rule supports by atoms of lower levels.
+fn lowest_ungrounded<S: RuleSource, L: Level>(
+    set: &MarkedSet<S>,
+    levels: &LevelTable<L>,
+) -> Option<u16>
+    ensures value { result ≡ lowest (ungrounded L.below (S.meaning set.now.source.now) (marked set.now.marks.now) levels.now.entries.now) (S.meaning set.now.source.now).atoms }
+{
+    // Three labelled loops by a rule of the project: each way out names the loop that it leaves.
+    'atoms: for atom in 1..=set.source.atoms() {
+        if !is_marked(set.marks, atom) {
+            continue 'atoms;
+        }
+        let own = levels.level(atom);
+        'rules: for rule in 1..=set.source.rules() {
+            if !set.supports(atom, rule) {
+                continue 'rules;
             }
-            let own = levels.level(atom);
-            'rules: for rule in 1..=self.source.rules() {
-                if !self.supports(atom, rule) {
+            'positive: for other in atoms_of(set.source, rule, Part::Positive) {
+                if !both_below(levels.level(other), own) {
                     continue 'rules;
                 }
-                'positive: for other in atoms_of(self.source, rule, Part::Positive) {
-                    if !both_below(levels.level(other), own) {
-                        continue 'rules;
-                    }
-                }
-                continue 'atoms;
             }
-            return Some(atom);
+            continue 'atoms;
         }
-        None
+        return Some(atom);
     }
-
-    // Does the rule support the atom?
-    fn supports(&self, atom: u16, rule: u16) -> bool
-        ensures value { result ≡ supports_at (S.meaning self.now.source.now) (marked self.now.marks.now) atom rule }
-    {
-        self.source.head(rule) == Some(atom) && is_marked(self.marks, atom) && self.body_holds(rule)
-    }
+    None
 }
 
 // The lowest marked atom without a level.
 fn lowest_unlevelled<L: Level>(atoms: u16, marks: &[u8], levels: &LevelTable<L>) -> Option<u16>
-    ensures value { result ≡ lowest (unlevelled L.below marks.now levels.now.entries.now) atoms }
+    ensures value { result ≡ lowest (unlevelled L.below (marked marks.now) levels.now.entries.now) atoms }
 {
     (1..=atoms).find(|atom| is_marked(marks, *atom) && levels.level(*atom).is_none())
 }

@@ -4,8 +4,8 @@ use Rattle.std.proofs.lemmas.Iterator.Search.{find_from_yields_List}
 use Rattle.rules.specs.Questions.{rule_at}
 use Rattle.rules.proofs.Ranges.{numbers_of, lowest_found}
 use Rattle.marks.specs.Marks.{marked}
-use Rattle.verdict.specs.Judge.{is_broken}
-use Rattle.verdict.proofs.MarkedSet.lowest_broken.Goals as goal
+use Rattle.support.specs.Rules.{is_broken}
+use Rattle.support.proofs.MarkedSet.lowest_broken.Goals as goal
 
 pub returns : goal.returns
 returns g c =

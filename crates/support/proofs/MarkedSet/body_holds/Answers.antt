@@ -6,9 +6,9 @@ use Rattle.rules.specs.Parts.{atoms_left}
 use Rattle.rules.specs.Questions.{positive_part, negative_part}
 use Rattle.rules.specs.Tests.{all, any}
 use Rattle.marks.specs.Marks.{marked}
-use Rattle.verdict.proofs.MarkedSet.body_holds.Given as given
-use Rattle.verdict.proofs.MarkedSet.body_holds.Goals.{After-all}
-use Rattle.verdict.proofs.MarkedSet.body_holds.Goals as goal
+use Rattle.support.proofs.MarkedSet.body_holds.Given as given
+use Rattle.support.proofs.MarkedSet.body_holds.Goals.{After-all}
+use Rattle.support.proofs.MarkedSet.body_holds.Goals as goal
 
 every : (g : given.Over) (c : After-all g) → c.all.result ≡ all (marked c.args.self.now.marks.now) (positive_part (g.S.RuleSource.meaning c.args.self.now.source.now) c.args.rule)
 every g c = all_from_yields_List (marked c.args.self.now.marks.now) c.all.new.self _ _ c.all.ensures.ran (YieldsList-from_first (λ x. x) (atoms_left g.S.RuleSource.meaning) _ c.atoms_of.ensures.value) (λ x b q k. search (rules, tests))

@@ -8,25 +8,25 @@ use Rattle.rules.proofs.Parts.{any_rule_from}
 use Rattle.rules.proofs.Tests.{lowest_from}
 use Rattle.marks.specs.Marks.{marked}
 use Rattle.verdict.specs.Judge.{lower, ungrounded}
-use Rattle.verdict.proofs.MarkedSet.lowest_ungrounded.Given as goal
+use Rattle.verdict.proofs.lowest_ungrounded.Given as goal
 
 -- the atoms that are left give the answer
 abbrev pub invariant-atoms : goal.invariant-atoms
 invariant-atoms g l =
-    let p = g.S.RuleSource.meaning l.self.source.now in
-    let test = ungrounded g.L.Level.below p l.self.marks.now l.levels.entries.now in
+    let p = g.S.RuleSource.meaning l.set.source.now in
+    let test = ungrounded g.L.Level.below p (marked l.set.marks.now) l.levels.entries.now in
     lowest_from test p.atoms l.atom ≡ lowest test p.atoms
 
 -- the rules that are left give whether the atom is grounded
 abbrev pub invariant-rules : goal.invariant-rules
 invariant-rules g l =
-    let p = g.S.RuleSource.meaning l.self.source.now in
-    let test = supports_with (lower g.L.Level.below l.levels.entries.now l.atom) (marked l.self.marks.now) l.atom in
+    let p = g.S.RuleSource.meaning l.set.source.now in
+    let test = supports_with (lower g.L.Level.below l.levels.entries.now l.atom) (marked l.set.marks.now) l.atom in
     any_rule_from p l.rule test ≡ any test p.rules
 
 -- what is left of the part gives whether all its levels are lower
 abbrev pub invariant-positive : goal.invariant-positive
 invariant-positive g l =
-    let part = positive_part (g.S.RuleSource.meaning l.self.source.now) l.rule in
+    let part = positive_part (g.S.RuleSource.meaning l.set.source.now) l.rule in
     let test = lower g.L.Level.below l.levels.entries.now l.atom in
     all test (atoms_left g.S.RuleSource.meaning l.other-iterator) ≡ all test part

@@ -7,25 +7,25 @@ use Rattle.rules.proofs.Parts.{any_rule_from, any_rule_from_all, any_rule_from_l
 use Rattle.rules.proofs.Tests.{lowest_from_here, lowest_from_last, lowest_from_more}
 use Rattle.verdict.specs.Judge.{lower, ungrounded}
 use Rattle.verdict.proofs.Steps.{grounded_by, grounded_passes, lower_read, not_by_rule, ungrounded_found, unmarked_passes}
-use Rattle.verdict.proofs.Support.{no_support}
-use Rattle.verdict.proofs.MarkedSet.lowest_ungrounded.Goals.{In-None, else-rules-test, then-rules-test+then-not-supports+else-rule-rule-end, then-rules-test+else-not-supports+in-Some+then-not-both_below+else-rule-rule-end-2}
-use Rattle.verdict.proofs.MarkedSet.lowest_ungrounded.Given as given
-use Rattle.verdict.proofs.MarkedSet.lowest_ungrounded.Goals as goal
+use Rattle.support.proofs.Support.{no_support}
+use Rattle.verdict.proofs.lowest_ungrounded.Goals.{In-None, else-rules-test, then-rules-test+then-not-supports+else-rule-rule-end, then-rules-test+else-not-supports+in-Some+then-not-both_below+else-rule-rule-end-2}
+use Rattle.verdict.proofs.lowest_ungrounded.Given as given
+use Rattle.verdict.proofs.lowest_ungrounded.Goals as goal
 
 pub atoms-preserved-then-not-is_marked : goal.atoms-preserved-then-not-is_marked
 atoms-preserved-then-not-is_marked g c =
     let below = g.L.Level.below in
-    let p = g.S.RuleSource.meaning c.args.self.now.source.now in
-    let marks = c.args.self.now.marks.now in
+    let p = g.S.RuleSource.meaning c.args.set.now.source.now in
+    let marks = c.args.set.now.marks.now in
     let entries = c.args.levels.now.entries.now in
     let atom = c.atoms.atom in
     let within : atom ≤ p.atoms = omega (arith, c.atoms-atom-end.ensures.value) in
-    sym (lowest_from_more (ungrounded below p marks entries) p.atoms atom within (unmarked_passes below p marks entries atom (sym c.if-not-is_marked.ensures.value))) ∙ c.atoms.invariant
+    sym (lowest_from_more (ungrounded below p (marked marks) entries) p.atoms atom within (unmarked_passes below p marks entries atom (sym c.if-not-is_marked.ensures.value))) ∙ c.atoms.invariant
 
 pub rules-preserved-then-not-supports : goal.rules-preserved-then-not-supports
 rules-preserved-then-not-supports g c =
-    let p = g.S.RuleSource.meaning c.args.self.now.source.now in
-    let set = marked c.args.self.now.marks.now in
+    let p = g.S.RuleSource.meaning c.args.set.now.source.now in
+    let set = marked c.args.set.now.marks.now in
     let atom = c.atoms.atom in
     let rule = c.rules.rule in
     let low = lower g.L.Level.below c.args.levels.now.entries.now atom in
@@ -35,8 +35,8 @@ rules-preserved-then-not-supports g c =
 pub rules-preserved : goal.rules-preserved
 rules-preserved g c =
     let below = g.L.Level.below in
-    let p = g.S.RuleSource.meaning c.args.self.now.source.now in
-    let marks = c.args.self.now.marks.now in
+    let p = g.S.RuleSource.meaning c.args.set.now.source.now in
+    let marks = c.args.set.now.marks.now in
     let entries = c.args.levels.now.entries.now in
     let atom = c.atoms.atom in
     let rule = c.rules.rule in
@@ -47,11 +47,11 @@ rules-preserved g c =
     sym (any_rule_from_more (supports_with (lower below entries atom) (marked marks) atom) p rule (omega arith) within (not_by_rule below p marks entries atom rule (left c.positive.other-iterator) c.positive.invariant other (left c.next.new.self) c.in-Some.ensures.steps high)) ∙ c.rules.invariant
 
 -- the rule grounds the atom: it supports it, and none of its positive atoms is left
-grounds : (g : given.Over) (c : In-None g) → ungrounded g.L.Level.below (g.S.RuleSource.meaning c.args.self.now.source.now) c.args.self.now.marks.now c.args.levels.now.entries.now c.atoms.atom ≡ false
+grounds : (g : given.Over) (c : In-None g) → ungrounded g.L.Level.below (g.S.RuleSource.meaning c.args.set.now.source.now) (marked c.args.set.now.marks.now) c.args.levels.now.entries.now c.atoms.atom ≡ false
 grounds g c =
     let below = g.L.Level.below in
-    let p = g.S.RuleSource.meaning c.args.self.now.source.now in
-    let marks = c.args.self.now.marks.now in
+    let p = g.S.RuleSource.meaning c.args.set.now.source.now in
+    let marks = c.args.set.now.marks.now in
     let entries = c.args.levels.now.entries.now in
     let atom = c.atoms.atom in
     let rule = c.rules.rule in
@@ -60,23 +60,23 @@ grounds g c =
 
 pub atoms-preserved : goal.atoms-preserved
 atoms-preserved g c =
-    let p = g.S.RuleSource.meaning c.args.self.now.source.now in
+    let p = g.S.RuleSource.meaning c.args.set.now.source.now in
     let within : c.atoms.atom ≤ p.atoms = omega (arith, c.atoms-atom-end.ensures.value) in
-    sym (lowest_from_more (ungrounded g.L.Level.below p c.args.self.now.marks.now c.args.levels.now.entries.now) p.atoms c.atoms.atom within (grounds g (goal.at.atoms-preserved g c).In-None)) ∙ c.atoms.invariant
+    sym (lowest_from_more (ungrounded g.L.Level.below p (marked c.args.set.now.marks.now) c.args.levels.now.entries.now) p.atoms c.atoms.atom within (grounds g (goal.at.atoms-preserved g c).In-None)) ∙ c.atoms.invariant
 
 -- the last atom is grounded
 pub returns-in-None : goal.returns-in-None
 returns-in-None g c =
-    let p = g.S.RuleSource.meaning c.args.self.now.source.now in
+    let p = g.S.RuleSource.meaning c.args.set.now.source.now in
     let last : c.atoms.atom ≡ p.atoms = omega (arith, c.atoms-atom-end.ensures.value) in
-    record { value = sym (lowest_from_last (ungrounded g.L.Level.below p c.args.self.now.marks.now c.args.levels.now.entries.now) p.atoms c.atoms.atom last (grounds g (goal.at.returns-in-None g c).In-None)) ∙ c.atoms.invariant }
+    record { value = sym (lowest_from_last (ungrounded g.L.Level.below p (marked c.args.set.now.marks.now) c.args.levels.now.entries.now) p.atoms c.atoms.atom last (grounds g (goal.at.returns-in-None g c).In-None)) ∙ c.atoms.invariant }
 
 -- no rule is left
 pub returns-in-atoms : goal.returns-in-atoms
 returns-in-atoms g c =
     let below = g.L.Level.below in
-    let p = g.S.RuleSource.meaning c.args.self.now.source.now in
-    let marks = c.args.self.now.marks.now in
+    let p = g.S.RuleSource.meaning c.args.set.now.source.now in
+    let marks = c.args.set.now.marks.now in
     let entries = c.args.levels.now.entries.now in
     let atom = c.atoms.atom in
     let rule = c.rules.rule in
@@ -93,4 +93,4 @@ returns-in-atoms g c =
           any_rule_from_last (supports_with low (marked marks) atom) p rule (omega arith) (omega (arith, w, c.rules-rule-end.ensures.value)) (not_by_rule below p marks entries atom rule (left w.positive.other-iterator) w.positive.invariant other (left w.next.new.self) w.in-Some.ensures.steps high)
     ] in
     let found = ungrounded_found below p marks entries atom (sym c.if-not-is_marked.ensures.value) (sym c.rules.invariant ∙ none) in
-    record { value = sym (lowest_from_here (ungrounded below p marks entries) p.atoms atom within found) ∙ c.atoms.invariant }
+    record { value = sym (lowest_from_here (ungrounded below p (marked marks) entries) p.atoms atom within found) ∙ c.atoms.invariant }
