@@ -1,0 +1,2 @@
+// Rankings: rounds, strict rankings and strong level rankings of a set of atoms, and what they say of stable sets.
+#![tactic(auto)]
