@@ -1,0 +1,9 @@
+pub mod Tables
+pub mod Taking
+pub mod Numbers
+pub mod Round
+pub mod Rounds
+pub mod Cases
+pub mod Laws
+pub mod MarksAfter
+pub mod Ends
