@@ -1,10 +1,10 @@
 -- The levels of the atoms, with claims put in. Assumes nothing.
-use Rattle.std.proofs.Common.{◌≡◌, ℕ, zero, suc, ◌-◌, ◌<◌, ◌≤◌, true, false, cond, eqb, ltb, leb, List, [], ◌∷◌, length, set, replicate, Some, None, Option, sym, refl, ap, ◌∙◌, ⊎_elim, arith}
+use Rattle.std.proofs.Common.{◌≡◌, ℕ, zero, suc, ◌-◌, ◌≤◌, true, false, cond, eqb, ltb, leb, List, [], ◌∷◌, length, replicate, Some, None, Option, sym, refl, ap, ◌∙◌, ⊎_elim, arith}
 use Rattle.std.specs.List.{slice_get}
-use Rattle.std.proofs.lemmas.List.{length-set}
 use Rattle.std.proofs.lemmas.Bool.{leb-true, ltb-true, eqb-true, eqb-false, ne_eqb, cond-true, cond-false, and_parts, cases_Bool}
 use Rattle.rules.specs.Program.{within, ascends_above, ascending}
 use Rattle.rules.specs.Tests.{all}
+use Rattle.tables.proofs.Entries.{length-with_put, nth_set_other, nth_set_same}
 use Rattle.levels.specs.Table.{held, level_of}
 use Rattle.certificate.specs.Claims.{atoms_of}
 use Rattle.certificate.specs.declared.Claim.{Claim}
@@ -14,23 +14,10 @@ use Rattle.survey.proofs.Lawful.{ascending_from_above}
 
 -- ONE ATOM
 
-module _ {X : Type 0} (y : X) where
-  nth_set_same : (xs : List X) (i : ℕ) → i < length xs → slice_get (set xs i y) i ≡ Some y
-  nth_set_same [] i there = absurd (omega arith)
-  nth_set_same (x ∷ xs) zero there = refl
-  nth_set_same (x ∷ xs) (suc i) there = nth_set_same xs i (omega arith)
-
-  nth_set_other : (xs : List X) (i j : ℕ) → (j ≡ i → ⊥) → slice_get (set xs i y) j ≡ slice_get xs j
-  nth_set_other [] i j apart = refl
-  nth_set_other (x ∷ xs) zero zero apart = absurd (apart refl)
-  nth_set_other (x ∷ xs) zero (suc j) apart = refl
-  nth_set_other (x ∷ xs) (suc i) zero apart = refl
-  nth_set_other (x ∷ xs) (suc i) (suc j) apart = nth_set_other xs i j (λ e. apart (ap suc e))
-
 module _ {L : Type 0} (entries : List (Option L)) (b : ℕ) where
   pub length-with_entry : (entry : Option L) → length (with_entry entries b entry) ≡ length entries
   length-with_entry None = refl
-  length-with_entry (Some x) = elim (eqb b 0) as (λ t. length (cond t entries (set entries (b - 1) (Some x))) ≡ length entries) [ true ↦ refl | false ↦ length-set entries (b - 1) (Some x) ]
+  length-with_entry (Some x) = length-with_put entries b (Some x)
 
   level_here : (entry : Option L) → within (length entries) b ≡ true → level_of entries b ≡ None → level_of (with_entry entries b entry) b ≡ held (Some entry)
   level_here None known none = none

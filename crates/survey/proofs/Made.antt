@@ -1,9 +1,9 @@
 -- The tables of a survey that is made say what its claims say. Assumes nothing.
-use Rattle.std.proofs.Common.{◌≡◌, ℕ, Bool, true, false, cond, ◌||◌, eqb, List, [], length, replicate, Ok, Err, Result, refl, ap, ◌∙◌, None, Option}
+use Rattle.std.proofs.Common.{◌≡◌, ℕ, Bool, true, false, ◌||◌, eqb, List, [], length, replicate, Ok, Err, Result, refl, ap, ◌∙◌, None, Option}
 use Rattle.std.proofs.lemmas.List.{length-replicate}
-use Rattle.std.proofs.lemmas.Bool.{eqb-true, eq-eqb, cond-true}
-use Rattle.refusal.specs.Results.{err_not_ok, passed}
-use Rattle.refusal.specs.Tables.{wrong_length}
+use Rattle.std.proofs.lemmas.Bool.{eq-eqb}
+use Rattle.refusal.specs.Tables.{length_checked}
+use Rattle.refusal.proofs.Checks.{both_passed, length_passed}
 use Rattle.refusal.specs.declared.Refusal.{Refusal}
 use Rattle.rules.specs.Program.{within}
 use Rattle.rules.specs.Tests.{all, member}
@@ -63,18 +63,15 @@ module _ {L : Type 0} (width : ℕ) (decode : List ℕ → L) (n kind : ℕ) (by
     made_by_fit (Err e) is = made_from_none marks entries
     made_by_fit (Ok u) is =
         let claims = claims_or_none (claims_in width decode n kind bytes) in
-        let first = passed (eqb marks n) err_not_ok is in
-        let second = passed (eqb entries n) err_not_ok first.1 in
-        made_as (made_by_claims (claims_in width decode n kind bytes) refl) (ap (λ m. made_marks m claims) (eqb-true marks n first.0)) (ap (λ m. made_entries m claims) (eqb-true entries n second.0))
+        let fits = both_passed (length_checked n marks) (length_checked n entries) is in
+        made_as (made_by_claims (claims_in width decode n kind bytes) refl) (ap (λ m. made_marks m claims) (length_passed n marks fits.0)) (ap (λ m. made_entries m claims) (length_passed n entries fits.1))
 
     -- whether or not a survey can be made
     pub made_for : MadeOf (claims_for width decode n kind marks entries bytes) marks entries
     made_for = made_by_fit (fitting n marks entries) refl
 
     pub claims_for_fitting : marks ≡ n → entries ≡ n → claims_for width decode n kind marks entries bytes ≡ claims_in width decode n kind bytes
-    claims_for_fitting m e = ap (λ fit. allowed fit (claims_in width decode n kind bytes))
-        (cond-true (eqb marks n) (cond (eqb entries n) (Ok tt) (Err (wrong_length entries))) (Err (wrong_length marks)) (eq-eqb marks n m)
-        ∙ cond-true (eqb entries n) (Ok tt) (Err (wrong_length entries)) (eq-eqb entries n e))
+    claims_for_fitting m e = let same : eqb n n ≡ true = eq-eqb n n refl in rw (m, e, same)
 
   -- TABLES THAT FIT
 

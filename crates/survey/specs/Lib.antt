@@ -1,2 +1,3 @@
+pub mod Levelling
 pub mod Made
 pub mod Making

@@ -1,6 +1,6 @@
 -- Making a survey: whether it can be made, and what its tables then hold. Assumes nothing.
-use Rattle.std.specs.Prelude.{ℕ, cond, List, [], ◌∷◌, replicate, Ok, Err, Result, ◌==◌, Some, None, Option}
-use Rattle.refusal.specs.Tables.{wrong_length}
+use Rattle.std.specs.Prelude.{ℕ, List, [], ◌∷◌, replicate, Ok, Err, Result, Some, None, Option}
+use Rattle.refusal.specs.Tables.{both_checked, length_checked}
 use Rattle.refusal.specs.declared.Refusal.{Refusal}
 use Rattle.levels.specs.Table.{with_level}
 use Rattle.marks.specs.Marks.{with_in}
@@ -9,7 +9,7 @@ use Rattle.certificate.specs.declared.Claim.{Claim}
 
 -- both tables have one entry for each of the n atoms: the marks are looked at first
 abbrev pub fitting : ℕ → ℕ → ℕ → Result (Unit {0}) Refusal
-fitting n marks entries = cond (marks == n) (cond (entries == n) (Ok tt) (Err (wrong_length entries))) (Err (wrong_length marks))
+fitting n marks entries = both_checked (length_checked n marks) (length_checked n entries)
 
 -- what may be claimed of tables that fit: what the certificate's reader answers
 abbrev pub allowed : {L : Type 0} → Result (Unit {0}) Refusal → Result (List (Claim L)) Refusal → Result (List (Claim L)) Refusal
