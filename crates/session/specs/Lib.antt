@@ -1,0 +1,5 @@
+pub mod Run
+pub mod Marked
+pub mod Law
+pub mod Made
+pub mod Inside
