@@ -3,6 +3,8 @@ use Rattle.std.specs.Prelude.{ℕ, Bool, cond, List, Ok, Err, Result, ◌==◌}
 use Rattle.refusal.specs.declared.Reason.TheVariants.{LevelKind}
 use Rattle.refusal.specs.declared.Refusal.{Refusal}
 use Rattle.rules.specs.Program.{Program}
+use Rattle.orders.specs.declared.kind.LevelKind.TheVariants as kind_of_levels
+use Rattle.orders.specs.declared.kind.LevelKind as levels
 use Rattle.orders.specs.Numbers.{less, number_kind, number_width, number_from}
 use Rattle.orders.specs.Routes.{inside, route_kind, route_width, route_from}
 use Rattle.program.specs.Reading.{program_in}
@@ -17,6 +19,11 @@ module _ {L : Type 0} (below : L → L → Bool) where
   abbrev pub judged_claims : Program → Result (List (Claim L)) Refusal → Result Verdict Refusal
   judged_claims p (Err e) = Err e
   judged_claims p (Ok claims) = judged below p (made_marks p.atoms claims) (made_entries p.atoms claims)
+
+-- the kind of levels that is stated, where it is that of numbers or that of routes
+abbrev pub known_kind : Result ℕ Refusal → Result levels.LevelKind Refusal
+known_kind (Err e) = Err e
+known_kind (Ok kind) = cond (kind == 1) (Ok kind_of_levels.Numbers) (cond (kind == 2) (Ok kind_of_levels.Routes) (Err (refusal_at LevelKind 0)))
 
 -- the level kind that the certificate states is that of numbers or that of routes
 abbrev pub by_level_kind : Program → List ℕ → Result ℕ Refusal → Result Verdict Refusal

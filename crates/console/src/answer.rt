@@ -1,8 +1,8 @@
 // The answer for a program file and a certificate file.
 ghost use Rattle.std.specs.Prelude.{◌≡◌, length, Ok};
-ghost use Rattle.certificate.specs.Reading.{claims_in};
+ghost use Rattle.certificate.specs.Reading.{stated_kind, claims_in};
 ghost use Rattle.console.specs.Accepted.{AcceptsOnlyStableFiles};
-ghost use Rattle.console.specs.Answer.{judged_claims, by_program, answer_for};
+ghost use Rattle.console.specs.Answer.{known_kind, judged_claims, by_program, answer_for};
 
 use certificate::read_kind;
 use levels::order::StoredLevel;
@@ -34,13 +34,8 @@ pub fn answer_over<S: RuleSource>(source: &S, certificate: &[u8]) -> Result<Verd
     ensures value { result ≡ by_program certificate.now (Ok (S.meaning source.now)) }
 {
     let mut marks = [0u8; TABLE];
-    let stated = read_kind(certificate, source.atoms())?;
-    let kind = LevelKind::try_from(stated).map_err(|_| Layer::Certificate.refuse(
-        Reason::LevelKind,
-        0,
-    ))?;
     // an arm for each kind, since it was not proved that an array of entries of any level type fits in memory
-    match kind {
+    match level_kind(certificate, source.atoms())? {
         LevelKind::Numbers => {
             let mut entries: [Entry<Number>; TABLE] = [None; TABLE];
             judge_within::<S, Number>(source, certificate, &mut marks, &mut entries)
@@ -50,6 +45,14 @@ pub fn answer_over<S: RuleSource>(source: &S, certificate: &[u8]) -> Result<Verd
             judge_within::<S, Route>(source, certificate, &mut marks, &mut entries)
         }
     }
+}
+
+// The kind of levels that a certificate for n atoms states, where it is one of those that there are.
+pub fn level_kind(certificate: &[u8], n: u16) -> Result<LevelKind, Refusal>
+    ensures value { result ≡ known_kind (stated_kind n certificate.now) }
+{
+    let stated = read_kind(certificate, n)?;
+    LevelKind::try_from(stated).map_err(|_| Layer::Certificate.refuse(Reason::LevelKind, 0))
 }
 
 // Judges what a certificate claims, in the first entries of tables for as many atoms as a program may have.

@@ -1,0 +1,4 @@
+pub mod Lawful
+pub mod Outcome
+pub mod Pair
+pub mod Top
