@@ -1,7 +1,5 @@
 // Cases for the tables of a survey.
-ghost use Rattle.std.specs.Prelude.{◌≡◌, length, IfOk, vec_len};
-
-use crate::verdicts::{LOOP_ALONE, LOOP_WITH_ENTRY, NO_FACT};
+use crate::verdicts::NO_FACT;
 use levels::order::StoredLevel;
 use levels::table::{Entry, LevelTable};
 use orders::numbers::Number;
@@ -9,7 +7,9 @@ use orders::routes::Route;
 use program_file::file::ProgramFile;
 use refusal::Refusal;
 use samples::bytes::{Claim, FileBytes, Order, Records};
+use samples::entries::{entries_of, numbers_of};
 use samples::lines::{RecordCase, print_answer, print_done};
+use samples::programs::{LOOP_ALONE, LOOP_WITH_ENTRY};
 use std::alloc::{AllocError, Global};
 use std::io;
 use survey::making::{can_make, can_make_from, make, make_from};
@@ -207,29 +207,6 @@ fn print_judged(rt: &HostRuntime, records: Records, cases: &[TableCase]) -> io::
         )?;
     }
     Ok(())
-}
-
-// An entry for each level that is there or not.
-fn entries_of(heap: Global, levels: &[Option<u32>]) -> Result<Vec<Entry<Number>>, AllocError>
-    ensures len { IfOk result (λ entries. vec_len entries ≡ length levels.now) }
-{
-    levels
-        .iter()
-        .map(|level| level.map(|value| Number { value }))
-        .collect(heap)
-}
-
-// The levels in the entries, as numbers.
-fn numbers_of<L: StoredLevel + Into<u64>>(
-    heap: Global,
-    entries: &[Entry<L>],
-) -> Result<Vec<Option<u64>>, AllocError>
-    ensures len { IfOk result (λ levels. vec_len levels ≡ length entries.now) }
-{
-    entries
-        .iter()
-        .map(|entry| entry.map(|level| level.into()))
-        .collect(heap)
 }
 
 // Makes a survey over a program file, and answers whether it could be made.

@@ -2,28 +2,10 @@
 use console::answer::answer;
 use samples::bytes::{FileBytes, Order, Records};
 use samples::lines::{Tried, print_tried};
+use samples::programs::{LOOP_ALONE, LOOP_WITH_ENTRY};
 use std::alloc::{AllocError, Global};
 use std::io;
 use verdict::Verdict;
-
-// 2 from 3, 3 from 2, 2 from 1 unless 4, and 1.
-pub const LOOP_WITH_ENTRY: Records = &[
-    &[4, 1, 4, 4],
-    &[6, 2, 2, 1, 3],
-    &[6, 2, 3, 1, 2],
-    &[8, 2, 2, 1, 1, 4],
-    &[4, 2, 1, 0],
-    &[0, 3],
-];
-
-// The same without 1.
-pub const LOOP_ALONE: Records = &[
-    &[4, 1, 4, 3],
-    &[6, 2, 2, 1, 3],
-    &[6, 2, 3, 1, 2],
-    &[8, 2, 2, 1, 1, 4],
-    &[0, 3],
-];
 
 // 1, and 2 from 1.
 const CHAIN: Records = &[&[4, 1, 2, 2], &[4, 2, 1, 0], &[6, 2, 2, 1, 1], &[0, 3]];
