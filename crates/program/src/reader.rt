@@ -17,7 +17,7 @@ use tables::entry;
 
 // A file has at most this many atoms and rules.
 
-pub const MAX_ATOMS: u16 = 4096;
+pub const MAX_ATOMS: u16 = rules::MAX_ATOMS;
 
 pub const MAX_RULES: u16 = 8000;
 

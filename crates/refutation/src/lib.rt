@@ -1,8 +1,9 @@
 // Refute: do the doubted atoms show that the marked set is no stable set?
 #![tactic(auto)]
 
-ghost use Rattle.std.specs.Prelude.{◌≡◌, Some};
+ghost use Rattle.std.specs.Prelude.{◌≡◌, ◌≤◌, Some};
 ghost use Rattle.marks.specs.Marks.{doubted, marked};
+ghost use Rattle.support.specs.Chains.{by_head};
 ghost use Rattle.refutation.specs.Refute.{word_of, number_of, text_of, frees_at, freeing_rule, lowest_escape, refuted, AcceptsNoStable};
 
 use marks::{check_bytes, count_doubted, is_doubted};
@@ -11,6 +12,7 @@ use rules::RuleSource;
 use rules::part::{Part, atoms_of};
 use std::fmt;
 use support::MarkedSet;
+use support::heads::RulesByHead;
 
 // A doubted atom, and a rule that supports it without a doubted positive atom.
 #[derive(Clone, Copy)]
@@ -86,11 +88,13 @@ pub fn refute<S: RuleSource>(source: &S, marks: &[u8]) -> Result<Refutation, Ref
 fn lowest_escape<S: RuleSource>(set: &MarkedSet<S>) -> Option<Escape>
     ensures value { result ≡ lowest_escape (S.meaning set.now.source.now) (marked set.now.marks.now) (doubted set.now.marks.now) }
 {
+    let mut heads = RulesByHead::empty();
+    heads.gather(set.source);
     for atom in 1..=set.source.atoms() {
         if !is_doubted(set.marks, atom) {
             continue;
         }
-        if let Some(rule) = freeing_rule(set, atom) {
+        if let Some(rule) = freeing_rule(set, &heads, atom) {
             return Some(Escape { atom, rule });
         }
     }
@@ -98,10 +102,20 @@ fn lowest_escape<S: RuleSource>(set: &MarkedSet<S>) -> Option<Escape>
 }
 
 // The lowest rule that supports the atom without a doubted positive atom.
-fn freeing_rule<S: RuleSource>(set: &MarkedSet<S>, atom: u16) -> Option<u16>
+fn freeing_rule<S: RuleSource>(set: &MarkedSet<S>, heads: &RulesByHead, atom: u16) -> Option<u16>
+    requires heads { heads.now ≡ by_head (S.meaning set.now.source.now) }
+    requires first { 1 ≤ atom }
+    requires last { atom ≤ (S.meaning set.now.source.now).atoms }
     ensures value { result ≡ freeing_rule (S.meaning set.now.source.now) (marked set.now.marks.now) (doubted set.now.marks.now) atom }
 {
-    (1..=set.source.rules()).find(|rule| frees(set, atom, *rule))
+    let mut next = heads.first(atom);
+    'rules: while let Some(rule) = next {
+        if frees(set, atom, rule) {
+            return Some(rule);
+        }
+        next = heads.after(rule);
+    }
+    None
 }
 
 // Does the rule support the atom without a doubted positive atom?

@@ -73,6 +73,3 @@ module _ (test : Rule → Bool) (p : Program) (k : ℕ) where
 
   pub any_rule_from_all : length p.rules < k → any_rule_from p k test ≡ false
   any_rule_from_all past = at_drop_all (any test) p.rules (k - 1) (omega arith)
-
-  pub any_rule_from_last : 1 ≤ k → k ≡ length p.rules → passes_at p k test ≡ false → any_rule_from p k test ≡ false
-  any_rule_from_last some last t = any_rule_from_more some (omega arith) t ∙ at_drop_all (any test) p.rules (k + 1 - 1) (omega arith)

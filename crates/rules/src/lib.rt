@@ -7,7 +7,10 @@ ghost use Rattle.rules.specs.Questions.{head_at, positive_at, negative_at};
 
 pub mod part;
 
-// A source has at most this many rules.
+// A source has at most this many atoms and rules.
+
+pub const MAX_ATOMS: u16 = 4096;
+
 pub const MAX_RULES: u16 = 16384;
 
 // A source stands for a lawful program, its meaning, and each question is answered by that meaning.

@@ -42,6 +42,7 @@ impl<'a, S: RuleSource> Iterator for PartAtoms<'a, S> {
 
     ghost remaining = { item_count (atoms_left S.meaning) };
 
+    #[inline(always)]
     fn next(&mut self) -> Option<u16> {
         let atom = match self.part {
             Part::Positive => self.source.positive(self.rule, self.position),

@@ -1,2 +1,4 @@
 pub mod Broken
 pub mod Support
+pub mod Chains
+pub mod Walk

@@ -1,10 +1,13 @@
 // A source and the marks of its atoms: which rules are broken, and which support an atom.
 #![tactic(auto)]
 
-ghost use Rattle.std.specs.Prelude.{◌≡◌};
-ghost use Rattle.rules.specs.Questions.{rule_at};
+ghost use Rattle.std.specs.Prelude.{◌≡◌, not};
+ghost use Rattle.rules.specs.Questions.{negative_part, rule_at};
+ghost use Rattle.rules.specs.Tests.{any};
 ghost use Rattle.marks.specs.Marks.{marked};
 ghost use Rattle.support.specs.Rules.{body_at, supports_at, is_broken, lowest_broken};
+
+pub mod heads;
 
 use marks::is_marked;
 use rules::RuleSource;
@@ -40,7 +43,14 @@ impl<S: RuleSource> MarkedSet<'_, S> {
         ensures value { result ≡ body_at (S.meaning self.now.source.now) (marked self.now.marks.now) rule }
     {
         atoms_of(self.source, rule, Part::Positive).all(|atom| is_marked(self.marks, atom))
-            && !atoms_of(self.source, rule, Part::Negative).any(|atom| is_marked(self.marks, atom))
+            && self.negative_part_holds(rule)
+    }
+
+    // Is no atom of the rule's negative part marked?
+    pub fn negative_part_holds(&self, rule: u16) -> bool
+        ensures value { result ≡ not (any (marked self.now.marks.now) (negative_part (S.meaning self.now.source.now) rule)) }
+    {
+        !atoms_of(self.source, rule, Part::Negative).any(|atom| is_marked(self.marks, atom))
     }
 
     // Does the rule support the atom?

@@ -1,6 +1,6 @@
 -- The entries of a table, and the table of a function. Assumes nothing.
-use Rattle.std.proofs.Common.{◌≡◌, ℕ, zero, suc, ◌+◌, ◌-◌, ◌<◌, ◌≤◌, Bool, true, false, cond, eqb, ltb, List, [], ◌∷◌, length, get_or, map, set, replicate, Some, None, Option, sym, refl, ap, ◌∙◌, ⊎_elim, arith}
-use Rattle.std.specs.List.{range_with_len, slice_get}
+use Rattle.std.proofs.Common.{◌≡◌, ℕ, zero, suc, ◌+◌, ◌-◌, ◌<◌, ◌≤◌, true, false, cond, eqb, ltb, List, [], ◌∷◌, length, set, replicate, Some, None, sym, refl, ap, ◌∙◌, ⊎_elim, arith}
+use Rattle.std.specs.List.{slice_get}
 use Rattle.std.proofs.lemmas.Bool.{cases_eq, cases_lt, cond-false, cond-true, le-ltb, lt-ltb, ne_eqb}
 use Rattle.std.proofs.lemmas.List.{get_or-replicate, length-replicate, length-set, same_lists}
 use Rattle.std.proofs.lemmas.List.FromFn.{get_or-map-range_with_len, length-map-range_with_len}
@@ -64,6 +64,17 @@ module _ {T : Type 0} (f g : ℕ → T) (n : ℕ) where
   pub table_same : ((a : ℕ) → 1 ≤ a → a ≤ n → f a ≡ g a) → table_of f n ≡ table_of g n
   table_same same = table_from g n (table_of f n) (length-map-range_with_len f 1 n) (λ a some within. entry_of_table f n a some within ∙ ap Some (same a some within))
 
+  -- where f and g differ at k alone
+  pub table_put : (k : ℕ) → ((a : ℕ) → 1 ≤ a → (a ≡ k → ⊥) → f a ≡ g a) → with_put (table_of f n) k (g k) ≡ table_of g n
+  table_put zero same = table_same (λ a some within. same a some (λ z. omega arith))
+  table_put (suc k) same =
+      let long = length-map-range_with_len f 1 n in
+      table_from g n (with_put (table_of f n) (suc k) (g (suc k))) (length-with_put (table_of f n) (suc k) (g (suc k)) ∙ long)
+      (λ a some within. ⊎_elim
+      (λ (here : a ≡ suc k). rw here (entry_put_here (table_of f n) (suc k) (g (suc k)) (omega arith) (omega arith)))
+      (λ apart. entry_put_apart (table_of f n) (suc k) (g (suc k)) a apart (omega arith) ∙ entry_of_table f n a some within ∙ ap Some (same a some apart))
+      (cases_eq a (suc k)))
+
 pub table_replicate : {T : Type 0} (y : T) (n : ℕ) → replicate n y ≡ table_of (λ a. y) n
 table_replicate y n =
     table_from (λ a. y) n (replicate n y) (length-replicate n y)
@@ -117,10 +128,8 @@ module _ {T : Type 0} (f g : ℕ → T) where
           (cases_eq a k))
 
       pub changed_put : 1 ≤ k → with_put (changed k) k (f k) ≡ changed (k + 1)
-      changed_put first =
-          let long = length-map-range_with_len (before k) 1 n in
-          table_from (before (k + 1)) n (with_put (changed k) k (f k)) (length-with_put (changed k) k (f k) ∙ long)
-          (λ a some within. ⊎_elim
-          (λ (here : a ≡ k). rw here (entry_put_here (changed k) k (f k) first (omega arith) ∙ ap Some (sym (before_earlier (k + 1) k (omega arith)))))
-          (λ apart. entry_put_apart (changed k) k (f k) a apart first ∙ entry_of_table (before k) n a some within ∙ ap Some (before_more a apart))
-          (cases_eq a k))
+      changed_put first = ap (with_put (changed k) k) (sym (before_earlier (k + 1) k (omega arith))) ∙ table_put (before k) (before (k + 1)) n k (λ a some apart. before_more a apart)
+
+      -- the atom k is changed back
+      pub changed_back : with_put (changed (k + 1)) k (g k) ≡ changed k
+      changed_back = ap (with_put (changed (k + 1)) k) (sym (before_later k k (omega arith))) ∙ table_put (before (k + 1)) (before k) n k (λ a some apart. sym (before_more a apart))

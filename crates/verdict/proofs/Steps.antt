@@ -1,15 +1,14 @@
 -- Steps of the search for an ungrounded atom. Assumes nothing.
-use Rattle.std.proofs.Common.{◌≡◌, ℕ, ◌≤◌, Bool, true, false, not, List, [], ◌∷◌, length, Option, sym, ap, ◌∙◌}
+use Rattle.std.proofs.Common.{◌≡◌, ℕ, Bool, true, false, not, List, [], ◌∷◌, length, is_some, Option, sym, ap, ◌∙◌}
 use Rattle.std.proofs.lemmas.Bool.{and_from, and_left, and_right}
 use Rattle.levels.specs.Table.{level_of}
 use Rattle.marks.specs.Marks.{marked}
 use Rattle.rules.specs.Program.{Program}
 use Rattle.rules.specs.Questions.{positive_part}
-use Rattle.rules.specs.Stable.{supports_with}
-use Rattle.rules.specs.Tests.{all}
-use Rattle.rules.proofs.Parts.{any_rule_from, any_rule_from_here, passes_at}
+use Rattle.rules.specs.Tests.{all, lowest}
 use Rattle.support.specs.Rules.{supports_at}
 use Rattle.support.proofs.Support.{positive_fails, supports_with_from}
+use Rattle.support.proofs.Walk.{some_by_lowest, supporting}
 use Rattle.verdict.specs.Judge.{both_below, grounded, lower, ungrounded}
 
 module _ {L : Type 0} (below : L → L → Bool) (entries : List (Option L)) (a b : ℕ) where
@@ -27,13 +26,14 @@ module _ {L : Type 0} (below : L → L → Bool) (p : Program) (marks : List ℕ
   pub ungrounded_found : marked marks a ≡ true → grounded below p (marked marks) entries a ≡ false → ungrounded below p (marked marks) entries a ≡ true
   ungrounded_found into none = and_from (marked marks a) (not (grounded below p (marked marks) entries a)) into (ap not none)
 
+  -- by the lowest rule that supports a with all its positive atoms' levels below a's own
+  pub grounded_by_lowest : (found : Option ℕ) → lowest (supporting p (lower below entries a) (marked marks) a) (length p.rules) ≡ found → grounded below p (marked marks) entries a ≡ is_some found
+  grounded_by_lowest found is = some_by_lowest p (lower below entries a) (marked marks) a ∙ ap is_some is
+
   -- where what is left of the positive atoms of rule k tells as much as all of them
   module _ (k : ℕ) (left : List ℕ) (walked : all (lower below entries a) left ≡ all (lower below entries a) (positive_part p k)) where
-    pub not_by_rule : (b : ℕ) (others : List ℕ) → left ≡ b ∷ others → lower below entries a b ≡ false → passes_at p k (supports_with (lower below entries a) (marked marks) a) ≡ false
+    pub not_by_rule : (b : ℕ) (others : List ℕ) → left ≡ b ∷ others → lower below entries a b ≡ false → supporting p (lower below entries a) (marked marks) a k ≡ false
     not_by_rule b others is high = positive_fails (lower below entries a) (marked marks) a p k (sym walked ∙ ap (all (lower below entries a)) is ∙ and_left (lower below entries a b) (all (lower below entries a) others) high)
 
-    -- the rules before k do not ground the atom, and rule k does
-    pub grounded_by : any_rule_from p k (supports_with (lower below entries a) (marked marks) a) ≡ grounded below p (marked marks) entries a → 1 ≤ k → k ≤ length p.rules → left ≡ [] → supports_at p (marked marks) a k ≡ true → grounded below p (marked marks) entries a ≡ true
-    grounded_by rest some within none support =
-        sym rest ∙ any_rule_from_here (supports_with (lower below entries a) (marked marks) a) p k some within
-        (supports_with_from (lower below entries a) (marked marks) a p k support (sym walked ∙ ap (all (lower below entries a)) none))
+    pub by_rule : left ≡ [] → supports_at p (marked marks) a k ≡ true → supporting p (lower below entries a) (marked marks) a k ≡ true
+    by_rule none support = supports_with_from (lower below entries a) (marked marks) a p k support (sym walked ∙ ap (all (lower below entries a)) none)

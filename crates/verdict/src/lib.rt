@@ -4,6 +4,7 @@
 ghost use Rattle.std.specs.Prelude.{◌≡◌, Some};
 ghost use Rattle.rules.specs.Tests.{lowest};
 ghost use Rattle.marks.specs.Marks.{marked};
+ghost use Rattle.support.specs.Chains.{by_head};
 ghost use Rattle.verdict.specs.Judge.{word_of, number_of, text_of, tables_checked, both_below, unlevelled, ungrounded, judged, AcceptsOnlyStable};
 
 use levels::order::Level;
@@ -14,6 +15,7 @@ use rules::RuleSource;
 use rules::part::{Part, atoms_of};
 use std::fmt;
 use support::MarkedSet;
+use support::heads::RulesByHead;
 
 // What judge answers, each with a number: a rule, an atom, an atom, how many atoms are marked.
 #[derive(Clone, Copy)]
@@ -78,7 +80,7 @@ pub fn judge<S: RuleSource, L: Level>(
     if let Some(atom) = lowest_unlevelled(atoms, marks, levels) {
         return Ok(Verdict::Unlevelled(atom));
     }
-    if let Some(atom) = lowest_ungrounded(&set, levels) {
+    if let Some(atom) = find_ungrounded(&set, levels) {
         return Ok(Verdict::Ungrounded(atom));
     }
     Ok(Verdict::Accepted(count_marked(marks)))
@@ -93,11 +95,26 @@ fn check_tables(atoms: u16, marks: &[u8], entries: usize) -> Result<(), Refusal>
     check_bytes(marks)
 }
 
+// The lowest marked atom that no rule supports by atoms of lower levels, once the rules of each atom are gathered.
+fn find_ungrounded<S: RuleSource, L: Level>(
+    set: &MarkedSet<S>,
+    levels: &LevelTable<L>,
+) -> Option<u16>
+    ensures value { result ≡ lowest (ungrounded L.below (S.meaning set.now.source.now) (marked set.now.marks.now) levels.now.entries.now) (S.meaning set.now.source.now).atoms }
+{
+    // gathered where they stand: an index that is moved is copied
+    let mut heads = RulesByHead::empty();
+    heads.gather(set.source);
+    lowest_ungrounded(set, levels, &heads)
+}
+
 // The lowest marked atom that no rule supports by atoms of lower levels.
 fn lowest_ungrounded<S: RuleSource, L: Level>(
     set: &MarkedSet<S>,
     levels: &LevelTable<L>,
+    heads: &RulesByHead,
 ) -> Option<u16>
+    requires heads { heads.now ≡ by_head (S.meaning set.now.source.now) }
     ensures value { result ≡ lowest (ungrounded L.below (S.meaning set.now.source.now) (marked set.now.marks.now) levels.now.entries.now) (S.meaning set.now.source.now).atoms }
 {
     // Three labelled loops by a rule of the project: each way out names the loop that it leaves.
@@ -106,7 +123,9 @@ fn lowest_ungrounded<S: RuleSource, L: Level>(
             continue 'atoms;
         }
         let own = levels.level(atom);
-        'rules: for rule in 1..=set.source.rules() {
+        let mut next = heads.first(atom);
+        'rules: while let Some(rule) = next {
+            next = heads.after(rule);
             if !set.supports(atom, rule) {
                 continue 'rules;
             }

@@ -1,14 +1,33 @@
--- The first rule that passes is the lowest.
-use Rattle.std.proofs.Common.{length, arith, rules, tests}
-use Rattle.std.proofs.lemmas.Iterator.Search.{find_from_yields_List}
-use Rattle.rules.proofs.Ranges.{numbers_of, lowest_found}
+-- The first rule of the chain that passes is the lowest.
+use Rattle.std.proofs.Common.{not, sym}
 use Rattle.marks.specs.Marks.{doubted, marked}
-use Rattle.refutation.specs.Refute.{frees_at}
+use Rattle.support.proofs.Walk.{walk_begins, walk_ends, walk_finds, walk_goes_on, walk_shortens}
 use Rattle.refutation.proofs.freeing_rule.Goals as goal
+
+pub rules-init : goal.rules-init
+rules-init g c =
+    let source = c.args.set.now.source.now in
+    let marks = c.args.set.now.marks.now in
+    walk_begins (g.S.RuleSource.meaning source) (λ b. not (doubted marks b)) (marked marks) c.args.atom c.args.heads.now c.first-next.result (g.S.RuleSource.lawful source) c.requires.heads c.requires.first c.requires.last c.first-next.ensures.value
+
+pub rules-smaller : goal.rules-smaller
+rules-smaller g c =
+    let source = c.args.set.now.source.now in
+    let marks = c.args.set.now.marks.now in
+    walk_shortens (g.S.RuleSource.meaning source) (λ b. not (doubted marks b)) (marked marks) c.args.atom c.rules.next c.rules.invariant c.in-Some.rule c.in-Some.is c.args.heads.now c.after-next.result (g.S.RuleSource.lawful source) c.requires.heads c.requires.first c.after-next.ensures.value
+
+pub rules-preserved : goal.rules-preserved
+rules-preserved g c =
+    let source = c.args.set.now.source.now in
+    let marks = c.args.set.now.marks.now in
+    walk_goes_on (g.S.RuleSource.meaning source) (λ b. not (doubted marks b)) (marked marks) c.args.atom c.rules.next c.rules.invariant c.in-Some.rule c.in-Some.is c.args.heads.now c.after-next.result (g.S.RuleSource.lawful source) c.requires.heads c.requires.first c.after-next.ensures.value (sym c.if-frees.ensures.value)
+
+pub returns-then-frees : goal.returns-then-frees
+returns-then-frees g c =
+    let marks = c.args.set.now.marks.now in
+    record { value = sym (walk_finds (g.S.RuleSource.meaning c.args.set.now.source.now) (λ b. not (doubted marks b)) (marked marks) c.args.atom c.rules.next c.rules.invariant c.in-Some.rule c.in-Some.is (sym c.if-frees.ensures.value)) }
 
 pub returns : goal.returns
 returns g c =
-    let p = g.S.RuleSource.meaning c.args.set.now.source.now in
-    let test = frees_at p (marked c.args.set.now.marks.now) (doubted c.args.set.now.marks.now) c.args.atom in
-    let numbers = numbers_of 1 c.rules.result (length p.rules) c.new.ensures.start c.new.ensures.end c.new.ensures.exhausted (omega (arith, c.rules.ensures.value)) in
-    record { value = lowest_found test (length p.rules) c.find.result (find_from_yields_List test c.find.new.self _ c.find.result c.find.ensures.ran numbers (λ x b q k. search (rules, tests))) }
+    let marks = c.args.set.now.marks.now in
+    record { value = sym (walk_ends (g.S.RuleSource.meaning c.args.set.now.source.now) (λ b. not (doubted marks b)) (marked marks) c.args.atom c.rules.next c.rules.invariant c.in_default.is) }

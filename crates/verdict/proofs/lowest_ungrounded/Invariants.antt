@@ -2,11 +2,10 @@
 use Rattle.std.proofs.Common.{◌≡◌}
 use Rattle.rules.specs.Parts.{atoms_left}
 use Rattle.rules.specs.Questions.{positive_part}
-use Rattle.rules.specs.Stable.{supports_with}
-use Rattle.rules.specs.Tests.{all, any, lowest}
-use Rattle.rules.proofs.Parts.{any_rule_from}
+use Rattle.rules.specs.Tests.{all, lowest}
 use Rattle.rules.proofs.Tests.{lowest_from}
 use Rattle.marks.specs.Marks.{marked}
+use Rattle.support.proofs.Walk.{Walk, rules_left}
 use Rattle.verdict.specs.Judge.{lower, ungrounded}
 use Rattle.verdict.proofs.lowest_ungrounded.Given as goal
 
@@ -17,12 +16,14 @@ invariant-atoms g l =
     let test = ungrounded g.L.Level.below p (marked l.set.marks.now) l.levels.entries.now in
     lowest_from test p.atoms l.atom ≡ lowest test p.atoms
 
--- the rules that are left give whether the atom is grounded
+-- the chain from here on gives whether the atom is grounded
 abbrev pub invariant-rules : goal.invariant-rules
 invariant-rules g l =
     let p = g.S.RuleSource.meaning l.set.source.now in
-    let test = supports_with (lower g.L.Level.below l.levels.entries.now l.atom) (marked l.set.marks.now) l.atom in
-    any_rule_from p l.rule test ≡ any test p.rules
+    Walk p (lower g.L.Level.below l.levels.entries.now l.atom) (marked l.set.marks.now) l.atom l.next
+
+abbrev pub decreases-rules : goal.decreases-rules
+decreases-rules g l = rules_left (g.S.RuleSource.meaning l.set.source.now) l.atom l.next
 
 -- what is left of the part gives whether all its levels are lower
 abbrev pub invariant-positive : goal.invariant-positive
