@@ -1,0 +1,4 @@
+pub mod Chains
+pub mod Counts
+pub mod Linked
+pub mod Taking
