@@ -21,7 +21,7 @@ use Rattle.rankings.proofs.Rounds.{supports_grows, taken_in}
 use Rattle.support.specs.Rules.{lowest_broken}
 use Rattle.settlement.specs.Settle.{ranked_entries}
 use Rattle.settlement.proofs.Cases.{RankedCase, outcome}
-use Rattle.settlement.proofs.Laws.{marked_known}
+use Rattle.rounds.proofs.Numbers.{marked_known}
 use Rattle.settlement.proofs.MarksAfter.{lawful_where, sized_where}
 use Rattle.verdict.specs.Judge.{both_below, by_ground, by_levels, by_rules, by_tables, grounded, judged, lower, tables_checked, ungrounded, unlevelled, verdict}
 use Rattle.verdict.specs.declared.Verdict.TheVariants.{Accepted}

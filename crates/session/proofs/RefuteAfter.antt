@@ -18,7 +18,7 @@ use Rattle.rankings.specs.Rounds.{left_count, left_over, taken}
 use Rattle.rankings.proofs.Rounds.{enough}
 use Rattle.rankings.proofs.Supported.{positive_from_body, supports_parts, supports_with_from, supports_with_parts}
 use Rattle.settlement.proofs.Cases.{LoopedCase, outcome}
-use Rattle.settlement.proofs.Laws.{marked_known}
+use Rattle.rounds.proofs.Numbers.{marked_known}
 use Rattle.settlement.proofs.MarksAfter.{doubted_after, lawful_after, lawful_where, length_after, marked_after, sized_where}
 use Rattle.refutation.specs.Refute.{by_escape, escape_of, escapes, freeing_rule, frees, frees_at, lowest_escape, refutation, refuted, unless_refused}
 use Rattle.refutation.specs.declared.Refutation.TheVariants.{Undoubted, Accepted}

@@ -16,11 +16,11 @@ use Rattle.rankings.proofs.Needed.{none_left, round_within_needed}
 use Rattle.rankings.proofs.Numbers.{round_of_taken, round_untaken}
 use Rattle.rankings.proofs.Rounds.{taken_in}
 use Rattle.settlement.specs.Settle.{Settled, all_rounds, by_left, by_rungs, ranked_entries, sifted_marks}
-use Rattle.settlement.specs.Taking.{number_in}
+use Rattle.rounds.specs.Taking.{number_in}
 use Rattle.settlement.specs.declared.Settlement.TheVariants.{Looped, Ranked}
 use Rattle.settlement.proofs.Cases.{Worked, at_left, outcome}
 use Rattle.settlement.proofs.Laws.{known_where}
-use Rattle.settlement.proofs.Numbers.{number_upto}
+use Rattle.rounds.proofs.Numbers.{number_upto}
 
 -- only for a marked atom does it count whether it is left over
 sifted_in : (left : Bool) (b : ℕ) → sifted left b ≡ sifted (in_byte b && left) b

@@ -1,30 +1,34 @@
 -- What settle's answers say of rankings. Assumes nothing.
-use Rattle.std.proofs.Common.{◌≡◌, ℕ, List, length, Err, Option, sym, ap, ◌∙◌, subst, ⊎_elim, arith}
+use Rattle.std.proofs.Common.{◌≡◌, ℕ, List, length, Some, None, Ok, Err, Option, Result, sym, ap, ◌∙◌, subst, ⊎_elim, arith}
 use Rattle.std.proofs.Math.Path.{fun_ext}
 use Rattle.std.proofs.lemmas.Bool.{both_ways}
 use Rattle.refusal.proofs.Checks.{both_passed, length_passed}
 use Rattle.refusal.specs.declared.Refusal.{Refusal}
 use Rattle.rules.specs.Program.{Program}
 use Rattle.rules.specs.Stable.{Atoms, Stable}
-use Rattle.rules.proofs.Tests.{within_from}
+use Rattle.rules.proofs.Tests.{some_same}
 use Rattle.tables.specs.Entries.{table_of}
 use Rattle.marks.specs.Marks.{marked}
-use Rattle.marks.proofs.Marked.{marked_above, marked_upto}
 use Rattle.rankings.specs.Laws.{Known, NoneBroken}
-use Rattle.rankings.specs.Rounds.{round_of, taken}
+use Rattle.rankings.specs.Rounds.{round_of, rounds_needed, taken}
+use Rattle.refusal.specs.Tables.{both_checked, length_checked}
+use Rattle.rounds.specs.TakenRounds.{all_taken, by_lengths, lengths_checked}
 use Rattle.rankings.proofs.Needed.{last_taker, none_left, round_within_needed, some_left}
 use Rattle.rankings.proofs.Rankings.{ranked_taken, ranking_is_round, rounds_rank}
 use Rattle.rankings.proofs.Stable.{stable_taken, taken_stable}
 use Rattle.support.proofs.Broken.{unbroken_lowest}
 use Rattle.settlement.specs.Laws.{LoopedHasNoRanking, OnlyRanking, RankedAbove, RankedGivesOnlyRanking, RefusesExactlyAboveRungs, SaysOfRankings}
 use Rattle.settlement.specs.Settle.{tables_checked}
-use Rattle.settlement.specs.Taking.{number_in}
-use Rattle.settlement.proofs.Numbers.{number_upto}
+use Rattle.rounds.specs.Taking.{number_in}
+use Rattle.rounds.proofs.Numbers.{marked_known, number_upto}
 use Rattle.settlement.proofs.Cases.{TooFewCase, Worked, err_case, err_from, outcome, when_looped, when_ranked, worked_cases}
 
--- the marked atoms of a table that fits are atoms of the program
-pub marked_known : (p : Program) (marks : List ℕ) → length marks ≡ p.atoms → Known p (marked marks)
-marked_known p marks sized a into = within_from p.atoms a (marked_above marks a into) (omega (arith, marked_upto marks a into))
+abbrev ok_or_none : {X E : Type 0} → Result X E → Option X
+ok_or_none (Ok x) = Some x
+ok_or_none (Err e) = None
+
+pub ok_same : {X E : Type 0} {x y : X} → ◌≡◌ {A = Result X E} (Ok x) (Ok y) → x ≡ y
+ok_same e = some_same (ap ok_or_none e)
 
 module _ (p : Program) (set : Atoms) (known : Known p set) where
   -- the number in a table of rounds
@@ -34,6 +38,18 @@ module _ (p : Program) (set : Atoms) (known : Known p set) where
 module _ {L : Type 0} (count : ℕ) (rung : ℕ → L) (p : Program) (marks : List ℕ) (entries : List (Option L)) (rounds : List ℕ) where
   pub known_where : Worked count rung p marks entries rounds → Known p (marked marks)
   known_where w = marked_known p marks (length_passed p.atoms (length marks) (both_passed _ _ w.fits).0)
+
+  -- the marks and the rounds have the right lengths
+  pub lengths_where : Worked count rung p marks entries rounds → lengths_checked p.atoms marks rounds ≡ Ok tt
+  lengths_where w =
+      let first = both_passed _ _ w.fits in
+      let second = both_passed _ _ first.1 in
+      let third = both_passed _ _ second.1 in
+      ap (λ c. both_checked c (length_checked p.atoms (length rounds))) first.0 ∙ third.0
+
+  -- and so every round is taken
+  pub taken_where : Worked count rung p marks entries rounds → all_taken p marks rounds ≡ record { count = Ok (rounds_needed p (marked marks)); rounds = table_of (round_of p (marked marks)) p.atoms }
+  taken_where w = ap (by_lengths p (marked marks) rounds) (lengths_where w)
 
   ranked_gives_only_ranking : RankedGivesOnlyRanking p (marked marks) (outcome count rung p marks entries rounds).answer (outcome count rung p marks entries rounds).rounds
   ranked_gives_only_ranking k h =

@@ -1,8 +1,4 @@
 pub mod Tables
-pub mod Taking
-pub mod Numbers
-pub mod Round
-pub mod Rounds
 pub mod Cases
 pub mod Laws
 pub mod MarksAfter

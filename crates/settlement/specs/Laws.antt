@@ -5,7 +5,7 @@ use Rattle.rules.specs.Program.{Program}
 use Rattle.rules.specs.Stable.{Atoms, Stable}
 use Rattle.rankings.specs.Laws.{NoneBroken}
 use Rattle.rankings.specs.Ranking.{Ranked, StrictRanking}
-use Rattle.settlement.specs.Taking.{number_in}
+use Rattle.rounds.specs.Taking.{number_in}
 use Rattle.settlement.specs.declared.Settlement.{Settlement}
 use Rattle.settlement.specs.declared.Settlement.TheVariants as answer
 

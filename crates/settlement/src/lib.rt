@@ -2,26 +2,23 @@
 #![tactic(auto)]
 
 ghost use Rattle.std.specs.Prelude.{◌≡◌, ℕ, ◌-◌, ◌≤◌, ◌&&◌, ◌==◌, if◌then◌else◌, length, Some};
-ghost use Rattle.rules.specs.Questions.{rule_at};
 ghost use Rattle.rules.specs.Tests.{tally};
 ghost use Rattle.levels.specs.Table.{level_of};
 ghost use Rattle.marks.specs.Marks.{marked, byte_of, sifted};
-ghost use Rattle.rankings.specs.Rounds.{round_upto, round_of, takes_some, rounds_needed};
 ghost use Rattle.tables.specs.Entries.{table_of};
 ghost use Rattle.rankings.specs.Laws.{StableWhenRanked, StrictWhenStrong};
 ghost use Rattle.settlement.specs.Laws.{SaysOfRankings};
 ghost use Rattle.settlement.specs.Settle.{word_of, number_of, text_of, tables_checked, settled};
-ghost use Rattle.settlement.specs.Taking.{number_in, supported_from, taken_before, taken_by};
+ghost use Rattle.rounds.specs.Taking.{number_in};
 
 use levels::order::Level;
 use levels::table::LevelTable;
 use marks::{check_bytes, is_marked, sift};
 use refusal::{Layer, Reason, Refusal, check_length};
+use rounds::{number_at, take_rounds};
 use rules::RuleSource;
-use rules::part::{Part, atoms_of};
 use std::fmt;
 use support::MarkedSet;
-use tables::{entry, put_entry};
 
 // What settle answers, each with a number: a rule, how many rounds took an atom, how many atoms are left over.
 #[derive(Clone, Copy)]
@@ -89,7 +86,7 @@ pub fn settle<S: RuleSource, L: Level>(
     if let Some(rule) = set.lowest_broken() {
         return Ok(Settlement::Broken(rule));
     }
-    let needed = take_rounds(&set, rounds);
+    let needed = take_rounds(source, marks, rounds)?;
     let left = count_left(n, marks, rounds);
     if left > 0 {
         doubt_left(n, marks, rounds);
@@ -112,90 +109,12 @@ fn check_tables(n: u16, marks: &[u8], entries: usize, rounds: usize) -> Result<(
     check_bytes(marks)
 }
 
-// Writes the round of each atom, and answers how many rounds take an atom.
-fn take_rounds<S: RuleSource>(set: &MarkedSet<S>, rounds: &mut [u16]) -> u16
-    requires marks { length set.now.marks.now ≡ (S.meaning set.now.source.now).atoms }
-    requires rounds { length rounds.old ≡ (S.meaning set.now.source.now).atoms }
-    ensures value { result ≡ rounds_needed (S.meaning set.now.source.now) (marked set.now.marks.now) }
-    ensures rounds { rounds.new ≡ table_of (round_of (S.meaning set.now.source.now) (marked set.now.marks.now)) (S.meaning set.now.source.now).atoms }
-{
-    rounds.fill(0);
-    let last = set.source.atoms();
-    'rounds: for round in 1..=last {
-        if !take_round(set, rounds, round) {
-            return round - 1;
-        }
-    }
-    last
-}
-
-// Writes the round of each atom that this round takes, and answers whether there is one.
-fn take_round<S: RuleSource>(set: &MarkedSet<S>, rounds: &mut [u16], round: u16) -> bool
-    requires marks { length set.now.marks.now ≡ (S.meaning set.now.source.now).atoms }
-    requires rounds { rounds.old ≡ table_of (round_upto (S.meaning set.now.source.now) (marked set.now.marks.now) (round - 1)) (S.meaning set.now.source.now).atoms }
-    requires first { 1 ≤ round }
-    requires last { round ≤ (S.meaning set.now.source.now).atoms }
-    ensures value { result ≡ takes_some (S.meaning set.now.source.now) (marked set.now.marks.now) round }
-    ensures rounds { rounds.new ≡ table_of (round_upto (S.meaning set.now.source.now) (marked set.now.marks.now) round) (S.meaning set.now.source.now).atoms }
-{
-    let mut took = false;
-    'rules: for rule in 1..=set.source.rules() {
-        if let Some(atom) = atom_taken(set, rounds, rule, round) {
-            put_entry(rounds, atom, round);
-            took = true;
-        }
-    }
-    took
-}
-
-// The atom that a rule takes in a round: its head, where no round has taken it yet.
-fn atom_taken<S: RuleSource>(
-    set: &MarkedSet<S>,
-    rounds: &[u16],
-    rule: u16,
-    round: u16,
-) -> Option<u16>
-    ensures value { result ≡ taken_by rounds.now round (marked set.now.marks.now) (rule_at (S.meaning set.now.source.now) rule) }
-{
-    let atom = set.source.head(rule)?;
-    let takes = round_in(rounds, atom) == 0 && supports_from(set, rounds, atom, rule, round);
-    takes.then_some(atom)
-}
-
-// Does the rule support the atom with all its positive atoms taken in earlier rounds?
-fn supports_from<S: RuleSource>(
-    set: &MarkedSet<S>,
-    rounds: &[u16],
-    atom: u16,
-    rule: u16,
-    round: u16,
-) -> bool
-    ensures value { result ≡ supported_from rounds.now round (marked set.now.marks.now) atom (rule_at (S.meaning set.now.source.now) rule) }
-{
-    let mut positive = atoms_of(set.source, rule, Part::Positive);
-    set.supports(atom, rule) && positive.all(|other| is_taken_before(rounds, other, round))
-}
-
-// Does the table say that a round before this one took the atom?
-fn is_taken_before(rounds: &[u16], atom: u16, round: u16) -> bool
-    ensures value { result ≡ taken_before rounds.now round atom }
-{
-    (1..round).contains(&round_in(rounds, atom))
-}
-
-// The round of an atom in the table; 0 where no round has taken it.
-fn round_in(rounds: &[u16], atom: u16) -> u16
-    ensures value { result ≡ number_in rounds.now atom }
-{
-    entry(rounds, atom).unwrap_or(0)
-}
-
 // How many marked atoms no round took.
 fn count_left(n: u16, marks: &[u8], rounds: &[u16]) -> usize
     ensures value { result ≡ tally (λ a. marked marks.now a && number_in rounds.now a == 0) n }
 {
     (1..=n)
-        .filter(|atom| is_marked(marks, *atom) && round_in(rounds, *atom) == 0)
+        .filter(|atom| is_marked(marks, *atom) && number_at(rounds, *atom) == 0)
         .count()
 }
 
@@ -205,7 +124,7 @@ fn doubt_left(n: u16, marks: &mut [u8], rounds: &[u16])
     ensures after { marks.new ≡ table_of (λ a. sifted (number_in rounds.now a == 0) (byte_of marks.old a)) n }
 {
     'atoms: for atom in 1..=n {
-        sift(marks, atom, round_in(rounds, atom) == 0);
+        sift(marks, atom, number_at(rounds, atom) == 0);
     }
 }
 
@@ -217,7 +136,7 @@ fn put_rungs<L: Level>(n: u16, levels: &mut LevelTable<L>, rounds: &[u16])
     ensures named { levels.new.entries.ghost_name ≡ levels.old.entries.ghost_name }
 {
     'atoms: for atom in 1..=n {
-        if let Some(rung) = L::rung_at(u32::from(round_in(rounds, atom))) {
+        if let Some(rung) = L::rung_at(u32::from(number_at(rounds, atom))) {
             levels.put(atom, rung);
         }
     }

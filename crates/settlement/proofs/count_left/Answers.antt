@@ -4,7 +4,7 @@ use Rattle.std.specs.Range.{range_inclusive_start, range_inclusive_end, range_in
 use Rattle.std.proofs.lemmas.Iterator.Consumers.{YieldsList-from_filter, count_from_yields_List}
 use Rattle.marks.specs.Marks.{marked}
 use Rattle.rules.proofs.Ranges.{length-filter_numbers, numbers_of}
-use Rattle.settlement.specs.Taking.{number_in}
+use Rattle.rounds.specs.Taking.{number_in}
 use Rattle.settlement.proofs.count_left.Goals as goal
 
 pub returns : goal.returns

@@ -3,7 +3,7 @@ use Rattle.std.proofs.Common.{◌≡◌, ℕ, ◌+◌, ◌≤◌, ◌==◌, List
 use Rattle.marks.specs.Marks.{byte_of, sifted}
 use Rattle.tables.specs.Entries.{with_put}
 use Rattle.tables.proofs.Entries.{changed, changed_all, changed_next, changed_none, changed_put}
-use Rattle.settlement.specs.Taking.{number_in}
+use Rattle.rounds.specs.Taking.{number_in}
 use Rattle.settlement.proofs.Tables.{byte_here, table_of_bytes}
 use Rattle.settlement.proofs.doubt_left.Goals.{After-sift}
 use Rattle.settlement.proofs.doubt_left.Goals as goal
@@ -25,7 +25,7 @@ pub atoms-init : goal.atoms-init
 atoms-init c = table_of_bytes c.args.marks.now c.args.n c.requires ∙ changed_none (new c.args.marks.now c.args.rounds.now c.args.n) (byte_of c.args.marks.now) c.args.n
 
 turn : (c : After-sift) → c.sift.new.marks ≡ changed (new c.args.marks.now c.args.rounds.now c.args.n) (byte_of c.args.marks.now) c.args.n (c.atoms.atom + 1)
-turn c = sifts c.args.marks.now c.args.rounds.now c.args.n c.atoms.atom c.round_in.result c.atoms.marks c.sift.new.marks (omega arith) (omega arith) c.atoms.invariant c.round_in.ensures.value c.sift.ensures.after
+turn c = sifts c.args.marks.now c.args.rounds.now c.args.n c.atoms.atom c.number_at.result c.atoms.marks c.sift.new.marks (omega arith) (omega arith) c.atoms.invariant c.number_at.ensures.value c.sift.ensures.after
 
 pub atoms-preserved : goal.atoms-preserved
 atoms-preserved c = turn (goal.at.atoms-preserved c).After-sift

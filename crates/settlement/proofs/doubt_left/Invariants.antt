@@ -2,7 +2,7 @@
 use Rattle.std.proofs.Common.{◌≡◌, ◌==◌}
 use Rattle.marks.specs.Marks.{byte_of, sifted}
 use Rattle.tables.proofs.Entries.{changed}
-use Rattle.settlement.specs.Taking.{number_in}
+use Rattle.rounds.specs.Taking.{number_in}
 use Rattle.settlement.proofs.doubt_left.Given as goal
 
 -- the atoms before this one are sifted, and the others are as they were

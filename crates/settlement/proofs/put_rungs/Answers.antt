@@ -5,7 +5,7 @@ use Rattle.std.proofs.lemmas.Option.{cond_some, none-some}
 use Rattle.levels.specs.Table.{level_of, with_level}
 use Rattle.tables.specs.Entries.{with_put}
 use Rattle.tables.proofs.Entries.{changed, changed_all, changed_kept, changed_none, changed_put}
-use Rattle.settlement.specs.Taking.{number_in}
+use Rattle.rounds.specs.Taking.{number_in}
 use Rattle.settlement.proofs.Tables.{table_of_levels}
 use Rattle.settlement.proofs.put_rungs.Given as given
 use Rattle.settlement.proofs.put_rungs.Goals.{Joined-rung_at, in-Some, in_default}
@@ -47,7 +47,7 @@ turn g c =
     let level = g.L.Level in
     let rounds = c.args.rounds.now in
     let entries = c.args.levels.now.entries.now in
-    let read = c.from.ensures ∙ c.round_in.ensures.value in
+    let read = c.from.ensures ∙ c.number_at.ensures.value in
     let before = c.atoms.levels.entries.now in
     let is = c.atoms.invariant.entries in
     elim c.match-rung_at.branch [

@@ -2,7 +2,7 @@
 use Rattle.std.proofs.Common.{◌≡◌, ◌==◌, cond, Some}
 use Rattle.levels.specs.Table.{level_of}
 use Rattle.tables.proofs.Entries.{changed}
-use Rattle.settlement.specs.Taking.{number_in}
+use Rattle.rounds.specs.Taking.{number_in}
 use Rattle.settlement.proofs.put_rungs.Given as goal
 
 -- the atoms before this one that a round took have their rungs, and the others are as they were

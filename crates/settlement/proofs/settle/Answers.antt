@@ -7,13 +7,13 @@ use Rattle.rules.specs.Tests.{tally}
 use Rattle.tables.specs.Entries.{table_of}
 use Rattle.levels.specs.Table.{level_of}
 use Rattle.marks.specs.Marks.{byte_of, marked, sifted}
-use Rattle.rankings.specs.Rounds.{left_count}
+use Rattle.rankings.specs.Rounds.{left_count, round_of, rounds_needed}
 use Rattle.settlement.specs.Settle.{tables_checked}
-use Rattle.settlement.specs.Taking.{number_in}
+use Rattle.rounds.specs.Taking.{number_in}
 use Rattle.rankings.proofs.Stable.{stable_when_ranked}
 use Rattle.rankings.proofs.Strong.{strict_when_strong}
 use Rattle.settlement.proofs.Cases.{Worked}
-use Rattle.settlement.proofs.Laws.{says_of_rankings}
+use Rattle.settlement.proofs.Laws.{ok_same, says_of_rankings, taken_where}
 use Rattle.settlement.proofs.Ends.{left_counted, marks_sifted, few_rounds, entries_ranked, ends_looped, ends_refused, ends_ranked}
 use Rattle.settlement.proofs.settle.Given as given
 use Rattle.settlement.proofs.settle.Goals.{After-count_left-left}
@@ -29,15 +29,22 @@ worked g c = record {
   whole = sym c.in_default.ensures.value;
 }
 
+-- the table that all rounds leave, and how many there are
+table : (g : given.Over) (c : After-count_left-left g) → c.take_rounds.new.rounds ≡ table_of (round_of (g.S.RuleSource.meaning c.args.source.now) (marked c.args.marks.now)) (g.S.RuleSource.meaning c.args.source.now).atoms
+table g c = c.take_rounds.ensures.rounds ∙ ap (λ t. t.rounds) (taken_where g.L.Level.RUNGS g.L.Level.rung (g.S.RuleSource.meaning c.args.source.now) c.args.marks.now c.args.levels.now.entries.now c.args.rounds.now (worked g c))
+
+needed : (g : given.Over) (c : After-count_left-left g) → c.in_ok-needed.needed ≡ rounds_needed (g.S.RuleSource.meaning c.args.source.now) (marked c.args.marks.now)
+needed g c = ok_same (c.in_ok-needed.ensures.value ∙ ap (λ t. t.count) (taken_where g.L.Level.RUNGS g.L.Level.rung (g.S.RuleSource.meaning c.args.source.now) c.args.marks.now c.args.levels.now.entries.now c.args.rounds.now (worked g c)))
+
 left : (g : given.Over) (c : After-count_left-left g) → c.count_left-left.result ≡ left_count (g.S.RuleSource.meaning c.args.source.now) (marked c.args.marks.now)
 left g c =
     let level = g.L.Level in
     let p = g.S.RuleSource.meaning c.args.source.now in
     let marks = c.args.marks.now in
-    let after = c.take_rounds-needed.new.rounds in
+    let after = c.take_rounds.new.rounds in
     c.count_left-left.ensures.value
     ∙ ap (tally (λ a. marked marks a && number_in after a == 0)) c.atoms-n.ensures.value
-    ∙ left_counted level.RUNGS level.rung p marks c.args.levels.now.entries.now c.args.rounds.now (worked g c) after c.take_rounds-needed.ensures.rounds
+    ∙ left_counted level.RUNGS level.rung p marks c.args.levels.now.entries.now c.args.rounds.now (worked g c) after (table g c)
 
 pub returns-then-left-gt0 : goal.returns-then-left-gt0
 returns-then-left-gt0 g c =
@@ -46,7 +53,7 @@ returns-then-left-gt0 g c =
     let marks = c.args.marks.now in
     let entries = c.args.levels.now.entries.now in
     let rounds = c.args.rounds.now in
-    let after = c.take_rounds-needed.new.rounds in
+    let after = c.take_rounds.new.rounds in
     let at = (goal.at.returns-then-left-gt0 g c).After-count_left-left in
     let w = worked g at in
     let ends = ends_looped level.RUNGS level.rung p marks entries rounds w c.count_left-left.result (left g at) (omega arith) in
@@ -55,10 +62,10 @@ returns-then-left-gt0 g c =
       marks =
           c.doubt_left.ensures.after
           ∙ ap (table_of (λ a. sifted (number_in after a == 0) (byte_of marks a))) c.atoms-n.ensures.value
-          ∙ marks_sifted level.RUNGS level.rung p marks entries rounds w after c.take_rounds-needed.ensures.rounds
+          ∙ marks_sifted level.RUNGS level.rung p marks entries rounds w after (table g at)
           ∙ sym (ap (λ s. s.marks) ends);
       entries = sym (ap (λ s. s.entries) ends);
-      rounds = c.take_rounds-needed.ensures.rounds ∙ sym (ap (λ s. s.rounds) ends);
+      rounds = table g at ∙ sym (ap (λ s. s.rounds) ends);
       says_of_rankings = says_of_rankings level.RUNGS level.rung p c.args.marks.now c.args.levels.now.entries.now c.args.rounds.now;
       stable_when_ranked = stable_when_ranked p;
       strict_when_strong = strict_when_strong p;
@@ -69,16 +76,16 @@ pub returns-then-from-RUNGS : goal.returns-then-from-RUNGS
 returns-then-from-RUNGS g c =
     let level = g.L.Level in
     let p = g.S.RuleSource.meaning c.args.source.now in
-    let k = c.take_rounds-needed.result in
+    let k = c.in_ok-needed.needed in
     let at = (goal.at.returns-then-from-RUNGS g c).After-count_left-left in
     let none : left_count p (marked c.args.marks.now) ≡ 0 = omega (arith, left g at) in
     let above : level.RUNGS < k = omega (arith, c.from.ensures, c.RUNGS.ensures) in
-    let ends = ends_refused level.RUNGS level.rung p c.args.marks.now c.args.levels.now.entries.now c.args.rounds.now (worked g at) k c.take_rounds-needed.ensures.value none above in
+    let ends = ends_refused level.RUNGS level.rung p c.args.marks.now c.args.levels.now.entries.now c.args.rounds.now (worked g at) k (needed g at) none above in
     record {
       answer = ap Err (c.refuse.ensures.value ∙ ap (refused Survey Rounds) c.from-then-from-RUNGS.ensures) ∙ sym (ap (λ s. s.answer) ends);
       marks = sym (ap (λ s. s.marks) ends);
       entries = sym (ap (λ s. s.entries) ends);
-      rounds = c.take_rounds-needed.ensures.rounds ∙ sym (ap (λ s. s.rounds) ends);
+      rounds = table g at ∙ sym (ap (λ s. s.rounds) ends);
       says_of_rankings = says_of_rankings level.RUNGS level.rung p c.args.marks.now c.args.levels.now.entries.now c.args.rounds.now;
       stable_when_ranked = stable_when_ranked p;
       strict_when_strong = strict_when_strong p;
@@ -90,8 +97,8 @@ put_rungs-requires-clause-few g c =
     let level = g.L.Level in
     let p = g.S.RuleSource.meaning c.args.source.now in
     let at = (goal.at.put_rungs-requires-clause-few g c).After-count_left-left in
-    few_rounds level.RUNGS level.rung p c.args.marks.now c.args.levels.now.entries.now c.args.rounds.now (worked g at) c.take_rounds-needed.new.rounds c.take_rounds-needed.ensures.rounds
-    (omega (arith, c.take_rounds-needed.ensures.value, c.from.ensures, c.RUNGS.ensures))
+    few_rounds level.RUNGS level.rung p c.args.marks.now c.args.levels.now.entries.now c.args.rounds.now (worked g at) c.take_rounds.new.rounds (table g at)
+    (omega (arith, (needed g at), c.from.ensures, c.RUNGS.ensures))
 
 pub returns : goal.returns
 returns g c =
@@ -100,22 +107,22 @@ returns g c =
     let marks = c.args.marks.now in
     let entries = c.args.levels.now.entries.now in
     let rounds = c.args.rounds.now in
-    let after = c.take_rounds-needed.new.rounds in
-    let k = c.take_rounds-needed.result in
+    let after = c.take_rounds.new.rounds in
+    let k = c.in_ok-needed.needed in
     let at = (goal.at.returns g c).After-count_left-left in
     let w = worked g at in
     let none : left_count p (marked marks) ≡ 0 = omega (arith, left g at) in
     let within : k ≤ level.RUNGS = omega (arith, c.from.ensures, c.RUNGS.ensures) in
-    let ends = ends_ranked level.RUNGS level.rung p marks entries rounds w k c.take_rounds-needed.ensures.value none within in
+    let ends = ends_ranked level.RUNGS level.rung p marks entries rounds w k (needed g at) none within in
     record {
       answer = sym (ap (λ s. s.answer) ends);
       marks = sym (ap (λ s. s.marks) ends);
       entries =
           c.put_rungs.ensures.after
           ∙ ap (table_of (λ a. cond (number_in after a == 0) (level_of entries a) (Some (level.rung (number_in after a))))) c.atoms-n.ensures.value
-          ∙ entries_ranked level.RUNGS level.rung p marks entries rounds w after c.take_rounds-needed.ensures.rounds none
+          ∙ entries_ranked level.RUNGS level.rung p marks entries rounds w after (table g at) none
           ∙ sym (ap (λ s. s.entries) ends);
-      rounds = c.take_rounds-needed.ensures.rounds ∙ sym (ap (λ s. s.rounds) ends);
+      rounds = table g at ∙ sym (ap (λ s. s.rounds) ends);
       says_of_rankings = says_of_rankings level.RUNGS level.rung p c.args.marks.now c.args.levels.now.entries.now c.args.rounds.now;
       stable_when_ranked = stable_when_ranked p;
       strict_when_strong = strict_when_strong p;

@@ -1,15 +1,22 @@
 -- The numbers in a table of rounds, for a set of the program's atoms. Assumes nothing.
-use Rattle.std.proofs.Common.{◌≡◌, ℕ, false, leb, refl}
+use Rattle.std.proofs.Common.{◌≡◌, ℕ, false, leb, List, length, refl, arith}
 use Rattle.std.proofs.lemmas.Bool.{and_right, both_ways, false_from_ne_true, lt-leb}
 use Rattle.rules.specs.Program.{Program, within}
 use Rattle.rules.specs.Stable.{Atoms}
+use Rattle.rules.proofs.Tests.{within_from}
+use Rattle.marks.specs.Marks.{marked}
+use Rattle.marks.proofs.Marked.{marked_above, marked_upto}
 use Rattle.tables.specs.Entries.{table_of}
 use Rattle.rankings.specs.Laws.{Known}
 use Rattle.rankings.specs.Rounds.{round_upto, taken}
 use Rattle.rankings.proofs.Numbers.{round_untaken}
 use Rattle.rankings.proofs.Rounds.{taken_in}
-use Rattle.settlement.specs.Taking.{number_in}
-use Rattle.settlement.proofs.Tables.{number_in_table}
+use Rattle.rounds.specs.Taking.{number_in}
+use Rattle.rounds.proofs.Tables.{number_in_table}
+
+-- the marked atoms of a table that fits are atoms of the program
+pub marked_known : (p : Program) (marks : List ℕ) → length marks ≡ p.atoms → Known p (marked marks)
+marked_known p marks sized a into = within_from p.atoms a (marked_above marks a into) (omega (arith, marked_upto marks a into))
 
 module _ (p : Program) (set : Atoms) (known : Known p set) (last : ℕ) where
   round_outside : (a : ℕ) → within p.atoms a ≡ false → round_upto p set last a ≡ 0

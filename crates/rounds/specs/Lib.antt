@@ -1,0 +1,3 @@
+pub mod Taking
+pub mod TakenRounds
+pub mod Progress

@@ -1,0 +1,24 @@
+// What is kept while the atoms of a marked set are taken round by round.
+ghost use Rattle.std.specs.Prelude.{◌≡◌, length};
+
+use rules::MAX_RULES;
+use waiting::WaitingLists;
+
+// Where the taking stands.
+#[derive(Drop)]
+pub(crate) struct Taking {
+    // rules, each under the positive atom that it waits for
+    pub(crate) waiting: WaitingLists,
+    // atoms, each under the round in which the rules that wait for it are asked: the one after that which took it
+    pub(crate) coming: WaitingLists,
+    // for each rule, the position after that of the atom that it waits for
+    pub(crate) positions: [u16; MAX_RULES as usize],
+    ghost sized: { length positions ≡ 16384 },
+}
+
+// A positive atom that a rule waits for, and its position.
+#[derive(Clone, Copy)]
+pub(crate) struct Wait {
+    pub(crate) position: u16,
+    pub(crate) atom: u16,
+}
