@@ -3,6 +3,8 @@ ghost use Rattle.std.specs.Prelude.{◌≡◌, length, Ok};
 ghost use Rattle.certificate.specs.Reading.{stated_kind, claims_in};
 ghost use Rattle.console.specs.Accepted.{AcceptsOnlyStableFiles};
 ghost use Rattle.console.specs.Answer.{known_kind, judged_claims, by_program, answer_for};
+ghost use Rattle.orders.specs.Numbers.{less, number_kind, number_width, number_from};
+ghost use Rattle.orders.specs.Routes.{inside, route_kind, route_width, route_from};
 
 use certificate::read_kind;
 use levels::order::StoredLevel;
@@ -25,25 +27,21 @@ pub fn answer(program: &[u8], certificate: &[u8]) -> Result<Verdict, Refusal>
     ensures value { result ≡ answer_for program.now certificate.now }
     ensures accepted_is_stable { AcceptsOnlyStableFiles program.now certificate.now result }
 {
-    let file = ProgramFile::read(program)?;
-    answer_over(&file, certificate)
+    // by reference: a file has its index inside, and each move of it is a copy
+    match &ProgramFile::read(program) {
+        Ok(file) => answer_over(file, certificate),
+        Err(refusal) => Err(*refusal),
+    }
 }
 
 // The level kind is taken from the certificate.
 pub fn answer_over<S: RuleSource>(source: &S, certificate: &[u8]) -> Result<Verdict, Refusal>
     ensures value { result ≡ by_program certificate.now (Ok (S.meaning source.now)) }
 {
-    let mut marks = [0u8; TABLE];
     // an arm for each kind, since it was not proved that an array of entries of any level type fits in memory
     match level_kind(certificate, source.atoms())? {
-        LevelKind::Numbers => {
-            let mut entries: [Entry<Number>; TABLE] = [None; TABLE];
-            judge_within::<S, Number>(source, certificate, &mut marks, &mut entries)
-        }
-        LevelKind::Routes => {
-            let mut entries: [Entry<Route>; TABLE] = [None; TABLE];
-            judge_within::<S, Route>(source, certificate, &mut marks, &mut entries)
-        }
+        LevelKind::Numbers => judge_by_numbers(source, certificate),
+        LevelKind::Routes => judge_by_routes(source, certificate),
     }
 }
 
@@ -53,6 +51,27 @@ pub fn level_kind(certificate: &[u8], n: u16) -> Result<LevelKind, Refusal>
 {
     let stated = read_kind(certificate, n)?;
     LevelKind::try_from(stated).map_err(|_| Layer::Certificate.refuse(Reason::LevelKind, 0))
+}
+
+// Judges what a certificate claims by numbers.
+// Not inlined: the tables of a function are filled when it is entered, also those of an arm that is not taken.
+#[inline(never)]
+fn judge_by_numbers<S: RuleSource>(source: &S, certificate: &[u8]) -> Result<Verdict, Refusal>
+    ensures value { result ≡ judged_claims less (S.meaning source.now) (claims_in number_width number_from (S.meaning source.now).atoms number_kind certificate.now) }
+{
+    let mut marks = [0u8; TABLE];
+    let mut entries: [Entry<Number>; TABLE] = [None; TABLE];
+    judge_within::<S, Number>(source, certificate, &mut marks, &mut entries)
+}
+
+// Judges what a certificate claims by routes; not inlined for the same reason.
+#[inline(never)]
+fn judge_by_routes<S: RuleSource>(source: &S, certificate: &[u8]) -> Result<Verdict, Refusal>
+    ensures value { result ≡ judged_claims inside (S.meaning source.now) (claims_in route_width route_from (S.meaning source.now).atoms route_kind certificate.now) }
+{
+    let mut marks = [0u8; TABLE];
+    let mut entries: [Entry<Route>; TABLE] = [None; TABLE];
+    judge_within::<S, Route>(source, certificate, &mut marks, &mut entries)
 }
 
 // Judges what a certificate claims, in the first entries of tables for as many atoms as a program may have.

@@ -23,6 +23,8 @@ impl<'a> ProgramFile<'a> {
     }
 
     // The file over bytes, once they are checked.
+    // Not inlined: the room that checking needs is free again when judging begins.
+    #[inline(never)]
     pub fn read(bytes: &'a [u8]) -> Result<ProgramFile<'a>, Refusal>
         ensures value { program_read result ≡ program_in bytes.now }
     {
