@@ -1,0 +1,6 @@
+pub mod Answers
+pub mod Entries
+pub mod Files
+pub mod Outputs
+pub mod Lists
+pub mod Copies
