@@ -60,6 +60,82 @@ impl Case {
     }
 }
 
+/// What is done with a case, by its kind.
+pub trait ByKind {
+    /// What comes of it.
+    type Answer;
+
+    fn line(&mut self, program: &[u8], certificate: &[u8]) -> Self::Answer;
+
+    fn judge(
+        &mut self,
+        program: &[u8],
+        order: Order,
+        marks: &[u8],
+        levels: &[Level],
+    ) -> Self::Answer;
+
+    fn refute(&mut self, program: &[u8], marks: &[u8]) -> Self::Answer;
+
+    fn settle(
+        &mut self,
+        program: &[u8],
+        order: Order,
+        tables: (&[u8], &[Level]),
+        rounds: &[u16],
+    ) -> Self::Answer;
+
+    fn list(
+        &mut self,
+        program: &[u8],
+        order: Order,
+        making: &Making,
+        tables: (&[u8], &[Level]),
+        calls: &[Call],
+    ) -> Self::Answer;
+
+    fn copy(&mut self, program: &[u8], inputs: &[u16], out: &[u8]) -> Self::Answer;
+}
+
+impl Case {
+    /// What comes of the case.
+    pub fn answer<K: ByKind>(&self, by: &mut K) -> K::Answer {
+        match self {
+            Case::Line {
+                program,
+                certificate,
+            } => by.line(program, certificate),
+            Case::Judge {
+                program,
+                order,
+                marks,
+                levels,
+            } => by.judge(program, *order, marks, levels),
+            Case::Refute { program, marks } => by.refute(program, marks),
+            Case::Settle {
+                program,
+                order,
+                marks,
+                levels,
+                rounds,
+            } => by.settle(program, *order, (marks, levels), rounds),
+            Case::List {
+                program,
+                order,
+                making,
+                marks,
+                levels,
+                calls,
+            } => by.list(program, *order, making, (marks, levels), calls),
+            Case::Copy {
+                program,
+                inputs,
+                out,
+            } => by.copy(program, inputs, out),
+        }
+    }
+}
+
 /// What an implementation answers, and how the tables are afterwards; what a case has not is empty.
 #[derive(Clone, Debug, PartialEq, Eq, Default)]
 pub struct Outcome {

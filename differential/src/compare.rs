@@ -2,7 +2,7 @@
 #![forbid(unsafe_code)]
 
 use crate::answers::{Told, ACCEPTED, BROKEN, DONE, LOOPED, NONE, RANKED};
-use crate::cases::{Case, Outcome};
+use crate::cases::{ByKind, Case, Outcome};
 use crate::files::{read_certificate, read_kind, read_program, write_program};
 use crate::linked::{self, AskCode, CallCode, List, Stored};
 use crate::meaning::{members, Program, Set};
@@ -51,127 +51,104 @@ fn is_routes(order: Order) -> bool {
     order == Order::Routes
 }
 
+/// The library.
+struct Library;
+
+impl ByKind for Library {
+    type Answer = Outcome;
+
+    /// The line by the library.
+    fn line(&mut self, program: &[u8], certificate: &[u8]) -> Outcome {
+        let mut out = [0; LINE];
+        let many = linked::line(program, certificate, &mut out);
+        Outcome {
+            text: String::from_utf8_lossy(&out[..many]).into_owned(),
+            ..Outcome::default()
+        }
+    }
+
+    /// What judge answers by the library.
+    fn judge(&mut self, program: &[u8], order: Order, marks: &[u8], levels: &[Level]) -> Outcome {
+        Outcome {
+            told: Some(linked::judge(
+                program,
+                is_routes(order),
+                marks,
+                &stored(levels),
+            )),
+            ..Outcome::default()
+        }
+    }
+
+    /// What refute answers by the library.
+    fn refute(&mut self, program: &[u8], marks: &[u8]) -> Outcome {
+        Outcome {
+            told: Some(linked::refute(program, marks)),
+            ..Outcome::default()
+        }
+    }
+
+    /// What settle answers by the library, and the tables as it leaves them.
+    fn settle(
+        &mut self,
+        program: &[u8],
+        order: Order,
+        (marks, before): (&[u8], &[Level]),
+        rounds: &[u16],
+    ) -> Outcome {
+        let (mut marks, mut rounds) = (marks.to_vec(), rounds.to_vec());
+        let mut entries = stored(before);
+        let routes = is_routes(order);
+        let told = linked::settle(program, routes, &mut marks, &mut entries, &mut rounds);
+        Outcome {
+            told: Some(told),
+            marks,
+            levels: levels(&entries),
+            rounds,
+            ..Outcome::default()
+        }
+    }
+
+    /// What a list of calls answers by the library, and the tables as it leaves them.
+    fn list(
+        &mut self,
+        program: &[u8],
+        order: Order,
+        making: &Making,
+        (marks, before): (&[u8], &[Level]),
+        calls: &[Call],
+    ) -> Outcome {
+        let mut marks = marks.to_vec();
+        let mut entries = stored(before);
+        let routes = is_routes(order);
+        let mut lent = Lent::of(calls);
+        let told = lent.with_list(|list| {
+            linked::list(program, routes, making, &mut marks, &mut entries, list)
+        });
+        Outcome {
+            told: Some(told),
+            marks,
+            levels: levels(&entries),
+            performed: lent.performed(calls),
+            ..Outcome::default()
+        }
+    }
+
+    /// What the copy answers by the library, and the output as it leaves it.
+    fn copy(&mut self, program: &[u8], inputs: &[u16], out: &[u8]) -> Outcome {
+        let mut out = out.to_vec();
+        let told = linked::copy(program, inputs, &mut out);
+        Outcome {
+            told: Some(told),
+            out,
+            ..Outcome::default()
+        }
+    }
+}
+
 /// The outcome by the library.
 pub fn by_library(case: &Case) -> Outcome {
-    match case {
-        Case::Line {
-            program,
-            certificate,
-        } => line_by_library(program, certificate),
-        Case::Judge {
-            program,
-            order,
-            marks,
-            levels,
-        } => judge_by_library(program, *order, marks, levels),
-        Case::Refute { program, marks } => refute_by_library(program, marks),
-        Case::Settle {
-            program,
-            order,
-            marks,
-            levels,
-            rounds,
-        } => settle_by_library(program, *order, marks, levels, rounds),
-        Case::List {
-            program,
-            order,
-            making,
-            marks,
-            levels,
-            calls,
-        } => list_by_library(program, *order, making, (marks, levels), calls),
-        Case::Copy {
-            program,
-            inputs,
-            out,
-        } => copy_by_library(program, inputs, out),
-    }
-}
-
-/// The line by the library.
-fn line_by_library(program: &[u8], certificate: &[u8]) -> Outcome {
-    let mut out = [0; LINE];
-    let many = linked::line(program, certificate, &mut out);
-    Outcome {
-        text: String::from_utf8_lossy(&out[..many]).into_owned(),
-        ..Outcome::default()
-    }
-}
-
-/// What judge answers by the library.
-fn judge_by_library(program: &[u8], order: Order, marks: &[u8], levels: &[Level]) -> Outcome {
-    Outcome {
-        told: Some(linked::judge(
-            program,
-            is_routes(order),
-            marks,
-            &stored(levels),
-        )),
-        ..Outcome::default()
-    }
-}
-
-/// What refute answers by the library.
-fn refute_by_library(program: &[u8], marks: &[u8]) -> Outcome {
-    Outcome {
-        told: Some(linked::refute(program, marks)),
-        ..Outcome::default()
-    }
-}
-
-/// What settle answers by the library, and the tables as it leaves them.
-fn settle_by_library(
-    program: &[u8],
-    order: Order,
-    marks: &[u8],
-    before: &[Level],
-    rounds: &[u16],
-) -> Outcome {
-    let (mut marks, mut rounds) = (marks.to_vec(), rounds.to_vec());
-    let mut entries = stored(before);
-    let routes = is_routes(order);
-    let told = linked::settle(program, routes, &mut marks, &mut entries, &mut rounds);
-    Outcome {
-        told: Some(told),
-        marks,
-        levels: levels(&entries),
-        rounds,
-        ..Outcome::default()
-    }
-}
-
-/// What a list of calls answers by the library, and the tables as it leaves them.
-fn list_by_library(
-    program: &[u8],
-    order: Order,
-    making: &Making,
-    (marks, before): (&[u8], &[Level]),
-    calls: &[Call],
-) -> Outcome {
-    let mut marks = marks.to_vec();
-    let mut entries = stored(before);
-    let routes = is_routes(order);
-    let mut lent = Lent::of(calls);
-    let told = lent
-        .with_list(|list| linked::list(program, routes, making, &mut marks, &mut entries, list));
-    Outcome {
-        told: Some(told),
-        marks,
-        levels: levels(&entries),
-        performed: lent.performed(calls),
-        ..Outcome::default()
-    }
-}
-
-/// What the copy answers by the library, and the output as it leaves it.
-fn copy_by_library(program: &[u8], inputs: &[u16], out: &[u8]) -> Outcome {
-    let mut out = out.to_vec();
-    let told = linked::copy(program, inputs, &mut out);
-    Outcome {
-        told: Some(told),
-        out,
-        ..Outcome::default()
-    }
+    case.answer(&mut Library)
 }
 
 /// What a list of calls is lent, as it crosses: docs/DIFFERENTIAL.md tells its encoding.
@@ -260,111 +237,98 @@ fn code_of(call: &Call) -> CallCode {
     }
 }
 
-/// The outcome by the definitions.
-pub fn by_definition(case: &Case) -> Outcome {
-    match case {
-        Case::Line {
-            program,
-            certificate,
-        } => line_by_definition(program, certificate),
-        Case::Judge {
-            program,
-            order,
-            marks,
-            levels,
-        } => judge_by_definition(program, *order, marks, levels),
-        Case::Refute { program, marks } => refute_by_definition(program, marks),
-        Case::Settle {
-            program,
-            order,
+/// The definitions.
+struct Definitions;
+
+impl ByKind for Definitions {
+    type Answer = Outcome;
+
+    /// The line by the definitions.
+    fn line(&mut self, program: &[u8], certificate: &[u8]) -> Outcome {
+        Outcome {
+            text: survey::line(&survey::answer(program, certificate).into()),
+            ..Outcome::default()
+        }
+    }
+
+    /// What judge answers by the definitions.
+    fn judge(&mut self, program: &[u8], order: Order, marks: &[u8], levels: &[Level]) -> Outcome {
+        told_by(program, |program| {
+            survey::judge(program, order, marks, levels).into()
+        })
+    }
+
+    /// What refute answers by the definitions.
+    fn refute(&mut self, program: &[u8], marks: &[u8]) -> Outcome {
+        told_by(program, |program| survey::refute(program, marks).into())
+    }
+
+    /// What settle answers by the definitions, and the tables as it leaves them.
+    fn settle(
+        &mut self,
+        program: &[u8],
+        order: Order,
+        (marks, levels): (&[u8], &[Level]),
+        rounds: &[u16],
+    ) -> Outcome {
+        let (mut marks, mut levels, mut rounds) =
+            (marks.to_vec(), levels.to_vec(), rounds.to_vec());
+        let outcome = told_by(program, |program| {
+            survey::settle(program, order, &mut marks, &mut levels, &mut rounds).into()
+        });
+        Outcome {
             marks,
             levels,
             rounds,
-        } => settle_by_definition(program, *order, marks, levels, rounds),
-        Case::List {
-            program,
-            order,
-            making,
+            ..outcome
+        }
+    }
+
+    /// What a list of calls answers by the definitions, and the tables as it leaves them.
+    fn list(
+        &mut self,
+        program: &[u8],
+        order: Order,
+        making: &Making,
+        (marks, levels): (&[u8], &[Level]),
+        calls: &[Call],
+    ) -> Outcome {
+        let (mut marks, mut levels) = (marks.to_vec(), levels.to_vec());
+        let mut performed = nothing_performed(calls);
+        let outcome = told_by(program, |program| {
+            let mut survey = Survey {
+                program,
+                order,
+                marks: std::mem::take(&mut marks),
+                levels: std::mem::take(&mut levels),
+            };
+            survey.make(making);
+            performed = survey.perform(calls);
+            (marks, levels) = (survey.marks, survey.levels);
+            Told::new(DONE, calls.len())
+        });
+        Outcome {
             marks,
             levels,
-            calls,
-        } => list_by_definition(program, *order, making, (marks, levels), calls),
-        Case::Copy {
-            program,
-            inputs,
-            out,
-        } => copy_by_definition(program, inputs, out),
+            performed,
+            ..outcome
+        }
+    }
+
+    /// What the copy answers by the definitions, and the output as it leaves it.
+    fn copy(&mut self, program: &[u8], inputs: &[u16], out: &[u8]) -> Outcome {
+        let mut out = out.to_vec();
+        let outcome = told_by(program, |program| {
+            let size = put_inputs(program, inputs).and_then(|over| write_program(&over, &mut out));
+            size.map(|size| Told::new(DONE, size)).into()
+        });
+        Outcome { out, ..outcome }
     }
 }
 
-/// The line by the definitions.
-fn line_by_definition(program: &[u8], certificate: &[u8]) -> Outcome {
-    Outcome {
-        text: survey::line(&survey::answer(program, certificate).into()),
-        ..Outcome::default()
-    }
-}
-
-/// What judge answers by the definitions.
-fn judge_by_definition(program: &[u8], order: Order, marks: &[u8], levels: &[Level]) -> Outcome {
-    told_by(program, |program| {
-        survey::judge(program, order, marks, levels).into()
-    })
-}
-
-/// What refute answers by the definitions.
-fn refute_by_definition(program: &[u8], marks: &[u8]) -> Outcome {
-    told_by(program, |program| survey::refute(program, marks).into())
-}
-
-/// What settle answers by the definitions, and the tables as it leaves them.
-fn settle_by_definition(
-    program: &[u8],
-    order: Order,
-    marks: &[u8],
-    levels: &[Level],
-    rounds: &[u16],
-) -> Outcome {
-    let (mut marks, mut levels, mut rounds) = (marks.to_vec(), levels.to_vec(), rounds.to_vec());
-    let outcome = told_by(program, |program| {
-        survey::settle(program, order, &mut marks, &mut levels, &mut rounds).into()
-    });
-    Outcome {
-        marks,
-        levels,
-        rounds,
-        ..outcome
-    }
-}
-
-/// What a list of calls answers by the definitions, and the tables as it leaves them.
-fn list_by_definition(
-    program: &[u8],
-    order: Order,
-    making: &Making,
-    (marks, levels): (&[u8], &[Level]),
-    calls: &[Call],
-) -> Outcome {
-    let (mut marks, mut levels) = (marks.to_vec(), levels.to_vec());
-    let mut performed = nothing_performed(calls);
-    let outcome = told_by(program, |program| {
-        let mut survey = Survey {
-            program,
-            order,
-            marks: std::mem::take(&mut marks),
-            levels: std::mem::take(&mut levels),
-        };
-        survey.make(making);
-        performed = survey.perform(calls);
-        (marks, levels) = (survey.marks, survey.levels);
-        Told::new(DONE, calls.len())
-    });
-    Outcome {
-        marks,
-        levels,
-        performed,
-        ..outcome
-    }
+/// The outcome by the definitions.
+pub fn by_definition(case: &Case) -> Outcome {
+    case.answer(&mut Definitions)
 }
 
 /// What calls tell that were not performed: no answer, and the round tables as they were lent.
@@ -377,16 +341,6 @@ fn nothing_performed(calls: &[Call]) -> Performed {
             .map(|call| vec![no_answer(); call.inside.len()])
             .collect(),
     }
-}
-
-/// What the copy answers by the definitions, and the output as it leaves it.
-fn copy_by_definition(program: &[u8], inputs: &[u16], out: &[u8]) -> Outcome {
-    let mut out = out.to_vec();
-    let outcome = told_by(program, |program| {
-        let size = put_inputs(program, inputs).and_then(|over| write_program(&over, &mut out));
-        size.map(|size| Told::new(DONE, size)).into()
-    });
-    Outcome { out, ..outcome }
 }
 
 /// The answer over the program of a file, or the refusal of the file.

@@ -2,7 +2,7 @@
 #![forbid(unsafe_code)]
 
 use crate::answers::Told;
-use crate::cases::{Case, Outcome, KINDS};
+use crate::cases::{ByKind, Case, Outcome, KINDS};
 use crate::files::{read_certificate, read_kind, read_program};
 use crate::meaning::Rule;
 use crate::survey::{Asked, Call, Level, Making, Order, Question};
@@ -126,43 +126,6 @@ fn show_tables(
     writeln!(f, "  levels, {}: {}", order(by), levels(table))
 }
 
-/// Prints a line case.
-fn show_line(f: &mut fmt::Formatter<'_>, program: &[u8], certificate: &[u8]) -> fmt::Result {
-    show_program(f, program)?;
-    show_certificate(f, program, certificate)
-}
-
-/// Prints a judge case.
-fn show_judge(
-    f: &mut fmt::Formatter<'_>,
-    program: &[u8],
-    by: Order,
-    marks: &[u8],
-    table: &[Level],
-) -> fmt::Result {
-    show_program(f, program)?;
-    show_tables(f, by, marks, table)
-}
-
-/// Prints a refute case.
-fn show_refute(f: &mut fmt::Formatter<'_>, program: &[u8], marks: &[u8]) -> fmt::Result {
-    show_program(f, program)?;
-    writeln!(f, "  marks: {}", numbers(marks))
-}
-
-/// Prints a settle case.
-fn show_settle(
-    f: &mut fmt::Formatter<'_>,
-    program: &[u8],
-    by: Order,
-    (marks, table): (&[u8], &[Level]),
-    rounds: &[u16],
-) -> fmt::Result {
-    show_program(f, program)?;
-    show_tables(f, by, marks, table)?;
-    writeln!(f, "  rounds: {}", numbers(rounds))
-}
-
 /// Prints how the tables of a list are made.
 fn show_making(f: &mut fmt::Formatter<'_>, program: &[u8], making: &Making) -> fmt::Result {
     match making {
@@ -172,73 +135,74 @@ fn show_making(f: &mut fmt::Formatter<'_>, program: &[u8], making: &Making) -> f
     }
 }
 
-/// Prints a list case.
-fn show_list(
-    f: &mut fmt::Formatter<'_>,
-    program: &[u8],
-    by: Order,
-    making: &Making,
-    (marks, table): (&[u8], &[Level]),
-    calls: &[Call],
-) -> fmt::Result {
-    show_program(f, program)?;
-    show_making(f, program, making)?;
-    show_tables(f, by, marks, table)?;
-    for it in calls {
-        writeln!(f, "  call: {}", call(it))?;
-    }
-    Ok(())
-}
+/// Prints what is asked in a case.
+struct Printer<'a, 'b>(&'a mut fmt::Formatter<'b>);
 
-/// Prints a copy case.
-fn show_copy(
-    f: &mut fmt::Formatter<'_>,
-    program: &[u8],
-    inputs: &[u16],
-    out: &[u8],
-) -> fmt::Result {
-    show_program(f, program)?;
-    writeln!(f, "  inputs: {}", numbers(inputs))?;
-    writeln!(f, "  output: {} bytes", out.len())
+impl ByKind for Printer<'_, '_> {
+    type Answer = fmt::Result;
+
+    /// Prints a line case.
+    fn line(&mut self, program: &[u8], certificate: &[u8]) -> fmt::Result {
+        show_program(self.0, program)?;
+        show_certificate(self.0, program, certificate)
+    }
+
+    /// Prints a judge case.
+    fn judge(&mut self, program: &[u8], by: Order, marks: &[u8], table: &[Level]) -> fmt::Result {
+        show_program(self.0, program)?;
+        show_tables(self.0, by, marks, table)
+    }
+
+    /// Prints a refute case.
+    fn refute(&mut self, program: &[u8], marks: &[u8]) -> fmt::Result {
+        show_program(self.0, program)?;
+        writeln!(self.0, "  marks: {}", numbers(marks))
+    }
+
+    /// Prints a settle case.
+    fn settle(
+        &mut self,
+        program: &[u8],
+        by: Order,
+        (marks, table): (&[u8], &[Level]),
+        rounds: &[u16],
+    ) -> fmt::Result {
+        show_program(self.0, program)?;
+        show_tables(self.0, by, marks, table)?;
+        writeln!(self.0, "  rounds: {}", numbers(rounds))
+    }
+
+    /// Prints a list case.
+    fn list(
+        &mut self,
+        program: &[u8],
+        by: Order,
+        making: &Making,
+        (marks, table): (&[u8], &[Level]),
+        calls: &[Call],
+    ) -> fmt::Result {
+        show_program(self.0, program)?;
+        show_making(self.0, program, making)?;
+        show_tables(self.0, by, marks, table)?;
+        for it in calls {
+            writeln!(self.0, "  call: {}", call(it))?;
+        }
+        Ok(())
+    }
+
+    /// Prints a copy case.
+    fn copy(&mut self, program: &[u8], inputs: &[u16], out: &[u8]) -> fmt::Result {
+        show_program(self.0, program)?;
+        writeln!(self.0, "  inputs: {}", numbers(inputs))?;
+        writeln!(self.0, "  output: {} bytes", out.len())
+    }
 }
 
 impl fmt::Display for Case {
     /// Prints the kind of the case, and what is asked in it.
     fn fmt(&self, f: &mut fmt::Formatter<'_>) -> fmt::Result {
         writeln!(f, "  case: {}", KINDS[self.kind()])?;
-        match self {
-            Case::Line {
-                program,
-                certificate,
-            } => show_line(f, program, certificate),
-            Case::Judge {
-                program,
-                order,
-                marks,
-                levels,
-            } => show_judge(f, program, *order, marks, levels),
-            Case::Refute { program, marks } => show_refute(f, program, marks),
-            Case::Settle {
-                program,
-                order,
-                marks,
-                levels,
-                rounds,
-            } => show_settle(f, program, *order, (marks, levels), rounds),
-            Case::List {
-                program,
-                order,
-                making,
-                marks,
-                levels,
-                calls,
-            } => show_list(f, program, *order, making, (marks, levels), calls),
-            Case::Copy {
-                program,
-                inputs,
-                out,
-            } => show_copy(f, program, inputs, out),
-        }
+        self.answer(&mut Printer(f))
     }
 }
 
