@@ -14,7 +14,7 @@ use Rattle.rules.specs.Program.{Rule, Program, within}
 use Rattle.rules.specs.Questions.{rule_at, in_part}
 use Rattle.program.specs.Reading.{program_in, read_or_empty}
 use Rattle.program.specs.Index.{rule_size, with_starts, index_of}
-use Rattle.program_file.specs.Stored.{stored_head, by_positive, stored_positive, by_negative, stored_negative}
+use Rattle.program_file.specs.Stored.{Whole, stored_size, stored_count, stored_head, by_positive, stored_positive, by_negative, stored_negative}
 use Rattle.program.specs.Lawful.{Parts, parts_of, parts_sound}
 use Rattle.program.specs.declared.reader.Index.{Index}
 use Rattle.program_file.proofs.Starts.{StandsAt, stands, ok_program}
@@ -100,6 +100,18 @@ module _ (bytes : List ℕ) (start : ℕ) (rule : Option Rule) (at : StandsAt by
   -- numbers further on in the record
   further : (i j : ℕ) → first_word (drop j (drop i (drop start bytes))) ≡ word_at bytes ((start + i) + j)
   further i j = ap (λ xs. first_word (drop j xs)) (drop-drop i start bytes) ∙ ap first_word (drop-drop j (start + i) bytes)
+
+  size_there : stored_size bytes start ≡ at.size
+  size_there = ap (λ m. unwrap_or (word_at bytes m) 0) (sym (add-zero start)) ∙ ap (λ o. unwrap_or o 0) (sym (moved 0) ∙ first_word_of_header (drop start bytes) (record { length = at.size; kind = 2 }) at.here.header)
+
+  count_there : stored_count bytes start ≡ at.count
+  count_there = ap (λ o. unwrap_or o 0) (sym (moved 6) ∙ at.here.count_word)
+
+  pub whole_there : Whole bytes start
+  whole_there = record {
+    counted = omega (arith, at.here.counted, size_there, count_there);
+    ends = omega (arith, simp length-drop at at.here.whole, size_there);
+  }
 
   pub head_answer : stored_head bytes start ≡ option_map (λ r. r.head) rule
   head_answer =

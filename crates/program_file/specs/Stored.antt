@@ -1,5 +1,6 @@
 -- The atoms of a rule where its record stands: it begins at `start`. Assumes nothing.
-use Rattle.std.specs.Prelude.{ℕ, ◌+◌, ◌-◌, ◌*◌, ◌/◌, cond, List, Some, None, Option, nat_lt}
+use Rattle.std.specs.Prelude.{ℕ, ◌+◌, ◌-◌, ◌*◌, ◌/◌, ◌≤◌, cond, List, length, Some, None, Option, nat_lt}
+use Rattle.std.specs.Option.{unwrap_or}
 use Rattle.records.specs.Words.{word_at}
 
 -- the i-th number of `many` that stand at a place
@@ -25,3 +26,15 @@ by_negative bytes start i (Some size) (Some k) = number_in bytes (start + (8 + 2
 
 abbrev pub stored_negative : List ℕ → ℕ → ℕ → Option ℕ
 stored_negative bytes start i = by_negative bytes start i (word_at bytes start) (word_at bytes (start + 6))
+
+-- the length of the record's contents, and its positive count
+abbrev pub stored_size : List ℕ → ℕ → ℕ
+stored_size bytes start = unwrap_or (word_at bytes start) 0
+
+abbrev pub stored_count : List ℕ → ℕ → ℕ
+stored_count bytes start = unwrap_or (word_at bytes (start + 6)) 0
+
+-- the record stands whole, with as many atoms as its positive count says
+pub record Whole (bytes : List ℕ) (start : ℕ) : Type 0 where
+  pub counted : 2 * stored_count bytes start + 4 ≤ stored_size bytes start
+  pub ends : start + (4 + stored_size bytes start) ≤ length bytes

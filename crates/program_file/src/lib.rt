@@ -9,7 +9,7 @@ use refusal::Refusal;
 use rules::RuleSource;
 
 pub mod file;
-pub mod stored;
+mod stored;
 
 // Checks a program file, and tells how many atoms its program has.
 pub fn atoms_in(bytes: &[u8]) -> Result<u16, Refusal>
