@@ -1,35 +1,60 @@
 -- Tests of the numbers in a part. Assumes nothing.
-use Rattle.std.proofs.Common.{◌≡◌, ℕ, Bool, true, false, ◌&&◌, ltb, List, [], ◌∷◌, get_or, Some, None, Option, MatchOption, inl, inr, sym, ap, ◌∙◌, subst}
-use Rattle.std.specs.Iterator.{YieldsFirst, YieldsThen}
-use Rattle.std.specs.Iterator.Order.{ActsAsAtTwo, ChecksNeighbours, OrderTurn}
-use Rattle.std.specs.Fn.{CalledAtTwo}
-use Rattle.std.specs.List.{FoldsTo}
+use Rattle.std.proofs.Common.{◌≡◌, ℕ, zero, suc, ◌<◌, ◌≤◌, Bool, true, false, cond, ◌&&◌, leb, ltb, List, [], ◌∷◌, get_or, Some, Option, sym, refl, ap, ◌∙◌, ⊎_elim, arith}
+use Rattle.std.proofs.Math.Bool.{and-true}
+use Rattle.std.proofs.lemmas.Bool.{and_left, and_right, both_ways, cases_Bool, le-leb, le-ltb, leb-true, lt-ltb}
+use Rattle.refusal.specs.declared.Reason.{Reason}
+use Rattle.refusal.specs.declared.Reason.TheVariants.{Atom, Order}
 use Rattle.records.specs.Words.{word_of}
-use Rattle.rules.specs.Program.{ascends_above, ascending}
-use denote.Param.Members.{Mut}
-use denote.Ref.{Bor}
+use Rattle.rules.specs.Program.{ascends_above, ascending, within}
+use Rattle.rules.specs.Tests.{all}
 
 -- the first number that the bytes hold
 abbrev pub here : List ℕ → ℕ
 here xs = word_of (get_or xs 0 0) (get_or xs 1 0)
 
--- `is_sorted_by` compares each number with the one before it
-module _ {S F : Type 0} (rest : S → List ℕ) (g : Mut F (Bor ℕ × (Bor ℕ × Unit {0})) Bool) (f : F) (acts : ActsAsAtTwo g f ltb) where
-  after_first : (x : ℕ) (s : S) (xs : List ℕ) (o : Option ℕ) (u : S) (q : F × ℕ) (r : Bool) → YieldsThen (YieldsFirst rest) s xs o u → FoldsTo {P = F × ℕ} (OrderTurn g) (f, x) xs q
-      → MatchOption o (r ≡ true) (λ y. (r ≡ false) × ((h : F) × CalledAtTwo g q.0 q.1 y false h)) → r ≡ ascends_above x (rest s)
-  after_first x s [] None u q r y folds end = end ∙ ap (ascends_above x) (sym (ap rest y.1 ∙ y.2.0))
-  after_first x s [] (Some z) u q r y folds end =
-      let called = subst (λ (p : F × ℕ). CalledAtTwo g p.0 p.1 z false end.1.0) (sym folds) end.1.1 in
-      end.0 ∙ ap (λ b. b && ascends_above z (rest u)) (acts x z false end.1.0 called).1 ∙ ap (ascends_above x) (sym (ap rest y.1 ∙ y.2))
-  after_first x s (z ∷ xs) o u q r y folds end =
-      let next = folds.0 in
-      let did = acts x z true next.0 folds.1.0 in
-      let more = subst (λ (n : ℕ). FoldsTo {P = F × ℕ} (OrderTurn g) (f, n) xs q) folds.1.1 (subst (λ (e : F). FoldsTo {P = F × ℕ} (OrderTurn g) (e, next.1) xs q) did.0 folds.2) in
-      after_first z y.1.0 xs o u q r (y.0, y.1.2, y.2) more end ∙ ap (λ b. b && ascends_above z (rest y.1.0)) did.1 ∙ ap (ascends_above x) (sym y.1.1)
+-- what is left of a part ascends above `last`, and neither it nor `last` is above n
+abbrev pub rises : ℕ → ℕ → List ℕ → Bool
+rises n last left = ascends_above last left && (leb last n && all (within n) left)
 
-  pub ascending_from : (s : S) (r : Bool) → ChecksNeighbours g (YieldsFirst rest) s f r → r ≡ ascending (rest s)
-  ascending_from s r ran =
-      elim ran [
-        | inl none ↦ none.1 ∙ ap ascending (sym (ap rest none.0.1.1 ∙ none.0.1.2.0))
-        | inr some ↦ after_first some.0 some.5.1.0 some.1 some.2 some.3 some.4 r (some.5.0, some.5.1.2, some.5.2) some.6 some.7 ∙ ap ascending (sym some.5.1.1)
-      ]
+module _ (n : ℕ) where
+  pub rises_whole : (part : List ℕ) → rises n 0 part ≡ (ascending part && all (within n) part)
+  rises_whole [] = ap (λ b. b && true) (le-leb 0 n (omega arith))
+  rises_whole (zero ∷ rest) = sym (and_right (ascends_above 0 rest) false refl)
+  rises_whole (suc a ∷ rest) =
+      ap (λ b. (b && ascends_above (suc a) rest) && (leb 0 n && all (within n) (suc a ∷ rest))) (lt-ltb 0 (suc a) (omega arith))
+      ∙ ap (λ b. ascends_above (suc a) rest && (b && all (within n) (suc a ∷ rest))) (le-leb 0 n (omega arith))
+
+  module _ (last a : ℕ) (rest : List ℕ) where
+    pub rises_fails : a ≤ last → rises n last (a ∷ rest) ≡ false
+    rises_fails low = ap (λ b. (b && ascends_above a rest) && (leb last n && all (within n) (a ∷ rest))) (le-ltb last a low)
+
+    pub rises_on : last < a → rises n last (a ∷ rest) ≡ rises n a rest
+    rises_on high =
+        ap (λ b. (b && ascends_above a rest) && (leb last n && all (within n) (a ∷ rest))) (lt-ltb last a high)
+        ∙ ap (λ b. ascends_above a rest && (leb last n && ((b && leb a n) && all (within n) rest))) (le-leb 1 a (omega arith))
+        ∙ ap (λ b. ascends_above a rest && b) (⊎_elim
+        (λ (known : leb a n ≡ true). ap (λ b. b && (leb a n && all (within n) rest)) (le-leb last n (omega (arith, leb-true a n known))))
+        (λ (past : leb a n ≡ false). and_right (leb last n) (leb a n && all (within n) rest) (and_left (leb a n) (all (within n) rest) past) ∙ sym (and_left (leb a n) (all (within n) rest) past))
+        (cases_Bool (leb a n)))
+
+  pub rises_ends : (last : ℕ) → rises n last [] ≡ leb last n
+  rises_ends last = and-true (leb last n)
+
+-- h: the head is known; for each part whether it ascends, and whether its atoms are known; X: what is wrong otherwise
+pub fit : (h asc_left in_left asc_right in_right : Bool) (X : Option Reason) → h && ((asc_left && in_left) && (asc_right && in_right)) ≡ true
+    → cond (h && (in_left && in_right)) (cond (asc_left && asc_right) X (Some Order)) (Some Atom) ≡ X
+fit true true true true true X is = refl
+fit false a b c d X is = absurd (both_ways false refl is)
+fit true false b c d X is = absurd (both_ways false refl is)
+fit true true false c d X is = absurd (both_ways false refl is)
+fit true true true false d X is = absurd (both_ways false refl is)
+fit true true true true false X is = absurd (both_ways false refl is)
+
+pub unfit : (h asc_left in_left asc_right in_right : Bool) (X : Option Reason) → h && ((asc_left && in_left) && (asc_right && in_right)) ≡ false
+    → cond (h && (in_left && in_right)) (cond (asc_left && asc_right) X (Some Order)) (Some Atom) ≡ Some (cond (h && (in_left && in_right)) Order Atom)
+unfit false a b c d X is = refl
+unfit true a false c d X is = refl
+unfit true a true c false X is = refl
+unfit true false true c true X is = refl
+unfit true true true false true X is = refl
+unfit true true true true true X is = absurd (both_ways true is refl)

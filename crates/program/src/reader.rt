@@ -1,14 +1,16 @@
 // Reading a program file: every check in its order, and an index of where the rules begin.
-ghost use Rattle.std.specs.Prelude.{◌≡◌, ℕ, ◌+◌, ◌-◌, ◌*◌, ◌<◌, ◌≤◌, true, length, replicate, if◌then◌else◌, None};
+ghost use Rattle.std.specs.Prelude.{◌≡◌, ℕ, ◌+◌, ◌-◌, ◌*◌, ◌<◌, ◌≤◌, ◌&&◌, true, cond, length, nat_le, replicate, if◌then◌else◌, None};
 ghost use Rattle.std.specs.List.{slice_get};
+ghost use Rattle.refusal.specs.declared.Reason.TheVariants.{Atom, Order};
 ghost use Rattle.refusal.specs.declared.Layer.TheVariants.{Program as ProgramLayer};
 ghost use Rattle.records.specs.Words.{words};
 ghost use Rattle.rules.specs.Program.{within, ascending, disjoint};
+ghost use Rattle.rules.specs.Tests.{all};
 ghost use Rattle.program.specs.Reading.{file_head, opened, Fitting, opened_rule, rule_length, atoms_fault, rule_of, ended, checked, rules_from, program_in};
 ghost use Rattle.program.specs.Index.{indexed, indexed_from};
 ghost use Rattle.program.specs.Relation.{ReadsExactly};
 
-use crate::parts::{all_within, is_ascending};
+use crate::parts::{all_within, ascends_within};
 use records::kind::RecordKind;
 use records::rest::{self, HEAD_SIZE, Reader};
 use records::{read_word, word};
@@ -140,6 +142,7 @@ fn open_rule(rest: Rest<'_>, size: u16) -> Result<Option<RuleRecord>, Refusal>
 }
 
 // The atoms of a rule record: known, ascending in each part, and in one part only.
+#[tactic(auto, using(crate::proofs::Walks::fit, crate::proofs::Walks::unfit))]
 fn check_atoms(rest: Rest<'_>, rule: RuleRecord, n: u16) -> Result<(), Refusal>
     requires whole { 4 + rule.size ≤ length rest.bytes.now }
     requires counted { 2 * rule.positive + 4 ≤ rule.size }
@@ -149,16 +152,31 @@ fn check_atoms(rest: Rest<'_>, rule: RuleRecord, n: u16) -> Result<(), Refusal>
     let left = &rest.bytes[8..middle];
     let right = &rest.bytes[middle..4 + usize::from(rule.size)];
     let head = read_word(rest.bytes, 4).unwrap_or(0);
-    if head > n || !all_within(left, n) || !all_within(right, n) {
-        return Err(rest.refuse(Reason::Atom));
-    }
-    if !is_ascending(left) || !is_ascending(right) {
-        return Err(rest.refuse(Reason::Order));
+    if !are_fit(head, left, right, n) {
+        return Err(rest.refuse(why_unfit(head, left, right, n)));
     }
     if !are_disjoint(left, right) {
         return Err(rest.refuse(Reason::BothParts));
     }
     Ok(())
+}
+
+// Is each atom known, and does each part ascend?
+fn are_fit(head: u16, left: &[u8], right: &[u8], n: u16) -> bool
+    ensures value { result ≡ (nat_le head n && ((ascending (words left.now) && all (within n) (words left.now)) && (ascending (words right.now) && all (within n) (words right.now)))) }
+{
+    head <= n && ascends_within(left, n) && ascends_within(right, n)
+}
+
+// Which of these fails first: that each atom is known, before that each part ascends.
+fn why_unfit(head: u16, left: &[u8], right: &[u8], n: u16) -> Reason
+    ensures value { result ≡ cond (nat_le head n && (all (within n) (words left.now) && all (within n) (words right.now))) Order Atom }
+{
+    if head > n || !all_within(left, n) || !all_within(right, n) {
+        Reason::Atom
+    } else {
+        Reason::Order
+    }
 }
 
 // The end record: as many rules as stated, and nothing after it.
