@@ -1,16 +1,17 @@
 -- A walk over the chain of an atom: what it has left gives the lowest rule that supports the atom with a test on its positive atoms. Assumes nothing.
-use Rattle.std.proofs.Common.{◌≡◌, ℕ, zero, suc, ◌+◌, ◌-◌, ◌<◌, ◌≤◌, Bool, true, false, eqb, length, is_some, Some, None, Option, option_map, unwrap_or, sym, refl, ap, ◌∙◌, subst, ⊎_elim, arith}
+use Rattle.std.proofs.Common.{◌≡◌, ℕ, zero, suc, ◌+◌, ◌-◌, ◌<◌, ◌≤◌, Bool, true, false, not, ◌&&◌, eqb, length, is_some, Some, None, Option, option_map, unwrap_or, sym, refl, ap, ◌∙◌, subst, ⊎_elim, arith}
 use Rattle.std.proofs.lemmas.Bool.{and_parts, both_ways, cases_lt, cond-false, cond_both, eqb-true, false_from_ne_true, ne_eqb}
 use Rattle.rules.specs.Program.{Lawful, Program, Rule}
-use Rattle.rules.specs.Questions.{head_at, rule_at}
+use Rattle.rules.specs.Questions.{head_at, negative_part, positive_part, rule_at}
 use Rattle.rules.specs.Stable.{Atoms, supports_with}
-use Rattle.rules.specs.Tests.{any, first_from, lowest}
+use Rattle.rules.specs.Tests.{all, any, first_from, lowest}
 use Rattle.rules.proofs.Parts.{any_rule_from, any_rule_from_all, any_rule_from_here, any_rule_from_more, passes_at}
 use Rattle.rules.proofs.Tests.{lowest_from, lowest_from_here, lowest_from_more}
 use Rattle.tables.proofs.Entries.{entry_of_table}
 use Rattle.support.specs.Chains.{after_head, by_head, first_in, has_head, next_in, number_of, numbered, rule_from}
 use Rattle.support.specs.declared.heads.RulesByHead.{RulesByHead}
 use Rattle.support.proofs.Chains.{first_entry, found_numbered, rule_after, rule_past}
+use Rattle.support.proofs.Support.{supports_with_own}
 
 -- a rule that has the head a by a test has it
 head_from : (a : ℕ) (head : Option ℕ) → unwrap_or (option_map (λ h. eqb h a) head) false ≡ true → head ≡ Some a
@@ -130,6 +131,10 @@ module _ (p : Program) (test : ℕ → Bool) (set : Atoms) (a : ℕ) where
 
       left_here : lowest_from supporting (length p.rules) k ≡ lowest supporting (length p.rules)
       left_here = sym (ap lowest_left at) ∙ walk.left
+
+      -- the parts of the rule tell whether it supports an atom of the set
+      pub walk_parts : set a ≡ true → supporting k ≡ (not (any set (negative_part p k)) && all (λ b. set b && test b) (positive_part p k))
+      walk_parts into = supports_with_own test set a p k own into
 
       pub walk_finds : supporting k ≡ true → lowest supporting (length p.rules) ≡ Some k
       walk_finds passes = sym left_here ∙ lowest_from_here supporting (length p.rules) k (chain_within p a k own).1 passes

@@ -15,6 +15,10 @@ use Rattle.support.specs.Rules.{lowest_broken}
 use Rattle.support.proofs.Broken.{none_broken}
 use Rattle.verdict.specs.Judge.{both_below, grounded, lower, ungrounded}
 
+-- b is marked, with a level below a's
+abbrev pub under : {L : Type 0} → (L → L → Bool) → List ℕ → List (Option L) → ℕ → ℕ → Bool
+under below marks entries a b = marked marks b && lower below entries a b
+
 module _ {L : Type 0} (below : L → L → Bool) (irrefl : (x : L) → below x x ≡ false) (trans : (x y z : L) → below x y ≡ true → below y z ≡ true → below x z ≡ true) where
   both_below_irrefl : (x : Option L) → both_below below x x ≡ false
   both_below_irrefl None = refl
@@ -27,17 +31,13 @@ module _ {L : Type 0} (below : L → L → Bool) (irrefl : (x : L) → below x x
   both_below_trans (Some x) (Some y) (Some z) h k = trans x y z h k
 
   module _ (p : Program) (marks : List ℕ) (entries : List (Option L)) (sized : length marks ≡ p.atoms) where
-    -- b is marked, with a level below a's
-    abbrev under : ℕ → ℕ → Bool
-    under a b = marked marks b && lower below entries a b
-
     -- how many atoms are under a
     abbrev depth : ℕ → ℕ
-    depth a = tally (under a) p.atoms
+    depth a = tally (under below marks entries a) p.atoms
 
     depth_less : (a b : ℕ) → marked marks b ≡ true → lower below entries a b ≡ true → depth b < depth a
     depth_less a b into low =
-        tally_less (under b) (under a)
+        tally_less (under below marks entries b) (under below marks entries a)
         (λ k h. let parts = and_parts (marked marks k) (lower below entries b k) h in and_from (marked marks k) (lower below entries a k) parts.0 (both_below_trans (level_of entries k) (level_of entries b) (level_of entries a) parts.1 low))
         p.atoms b (marked_above marks b into) (omega (arith, marked_upto marks b into))
         (and_right (marked marks b) (lower below entries b b) (both_below_irrefl (level_of entries b)))

@@ -118,6 +118,7 @@ fn lowest_ungrounded<S: RuleSource, L: Level>(
     ensures value { result ≡ lowest (ungrounded L.below (S.meaning set.now.source.now) (marked set.now.marks.now) levels.now.entries.now) (S.meaning set.now.source.now).atoms }
 {
     // Three labelled loops by a rule of the project: each way out names the loop that it leaves.
+    // The rules that `heads` gives for an atom have it for their head, so only their parts are asked.
     'atoms: for atom in 1..=set.source.atoms() {
         if !is_marked(set.marks, atom) {
             continue 'atoms;
@@ -126,10 +127,13 @@ fn lowest_ungrounded<S: RuleSource, L: Level>(
         let mut next = heads.first(atom);
         'rules: while let Some(rule) = next {
             next = heads.after(rule);
-            if !set.supports(atom, rule) {
+            if !set.negative_part_holds(rule) {
                 continue 'rules;
             }
             'positive: for other in atoms_of(set.source, rule, Part::Positive) {
+                if !is_marked(set.marks, other) {
+                    continue 'rules;
+                }
                 if !both_below(levels.level(other), own) {
                     continue 'rules;
                 }

@@ -1,13 +1,14 @@
 -- One atom, one rule of its chain and one positive atom more looked at.
-use Rattle.std.proofs.Common.{◌≡◌, ◌≤◌, false, Some, None, sym, ◌∙◌, arith}
+use Rattle.std.proofs.Common.{◌≡◌, ◌<◌, ◌≤◌, false, Some, None, sym, ◌∙◌, arith}
+use Rattle.std.proofs.lemmas.Bool.{and_left, and_right}
 use Rattle.marks.specs.Marks.{marked}
 use Rattle.rules.specs.Parts.{atoms_left}
 use Rattle.rules.proofs.Tests.{lowest_from_here, lowest_from_last, lowest_from_more}
-use Rattle.support.proofs.Support.{no_support}
-use Rattle.support.proofs.Walk.{walk_begins, walk_ends, walk_finds, walk_goes_on, walk_shortens}
+use Rattle.support.proofs.Walk.{Walk, rules_left, supporting, walk_begins, walk_ends, walk_finds, walk_goes_on, walk_shortens}
 use Rattle.verdict.specs.Judge.{lower, ungrounded}
-use Rattle.verdict.proofs.Steps.{by_rule, grounded_by_lowest, grounded_passes, lower_read, not_by_rule, ungrounded_found, unmarked_passes}
-use Rattle.verdict.proofs.lowest_ungrounded.Goals.{In-None}
+use Rattle.verdict.proofs.Grounded.{under}
+use Rattle.verdict.proofs.Steps.{by_rule, grounded_by_lowest, grounded_passes, lower_read, not_by_negative, not_by_positive, ungrounded_found, unmarked_passes}
+use Rattle.verdict.proofs.lowest_ungrounded.Goals.{After-after-next, In-None, In-Some-other}
 use Rattle.verdict.proofs.lowest_ungrounded.Given as given
 use Rattle.verdict.proofs.lowest_ungrounded.Goals as goal
 
@@ -44,50 +45,54 @@ rules-init g c =
     let atom = c.atoms.atom in
     walk_begins p (lower below entries atom) (marked marks) atom c.args.heads.now c.first-next.result (g.S.RuleSource.lawful source) c.requires.heads (omega arith) (omega (arith, c.atoms-atom-end.ensures.value)) c.first-next.ensures.value
 
-pub rules-smaller-then-not-supports : goal.rules-smaller-then-not-supports
-rules-smaller-then-not-supports g c =
-    let below = g.L.Level.below in
-    let source = c.args.set.now.source.now in
-    let p = g.S.RuleSource.meaning source in
-    let marks = c.args.set.now.marks.now in
-    let entries = c.args.levels.now.entries.now in
-    let atom = c.atoms.atom in
-    walk_shortens p (lower below entries atom) (marked marks) atom c.rules.next c.rules.invariant c.in-Some.rule c.in-Some.is c.args.heads.now c.after-next.result (g.S.RuleSource.lawful source) c.requires.heads (omega arith) c.after-next.ensures.value
+module _ (g : given.Over) (c : After-after-next g) where
+  shortens : rules_left (g.S.RuleSource.meaning c.args.set.now.source.now) c.atoms.atom c.after-next.result < rules_left (g.S.RuleSource.meaning c.args.set.now.source.now) c.atoms.atom c.rules.next
+  shortens =
+      let source = c.args.set.now.source.now in
+      let atom = c.atoms.atom in
+      walk_shortens (g.S.RuleSource.meaning source) (lower g.L.Level.below c.args.levels.now.entries.now atom) (marked c.args.set.now.marks.now) atom c.rules.next c.rules.invariant c.in-Some.rule c.in-Some.is c.args.heads.now c.after-next.result (g.S.RuleSource.lawful source) c.requires.heads (omega arith) c.after-next.ensures.value
 
-pub rules-preserved-then-not-supports : goal.rules-preserved-then-not-supports
-rules-preserved-then-not-supports g c =
-    let below = g.L.Level.below in
-    let source = c.args.set.now.source.now in
-    let p = g.S.RuleSource.meaning source in
-    let marks = c.args.set.now.marks.now in
-    let entries = c.args.levels.now.entries.now in
-    let atom = c.atoms.atom in
-    walk_goes_on p (lower below entries atom) (marked marks) atom c.rules.next c.rules.invariant c.in-Some.rule c.in-Some.is c.args.heads.now c.after-next.result (g.S.RuleSource.lawful source) c.requires.heads (omega arith) c.after-next.ensures.value (no_support (lower below entries atom) (marked marks) atom p c.in-Some.rule (sym c.if-not-supports.ensures.value))
+  -- past a rule that does not support the atom by lower atoms
+  goes_on : supporting (g.S.RuleSource.meaning c.args.set.now.source.now) (lower g.L.Level.below c.args.levels.now.entries.now c.atoms.atom) (marked c.args.set.now.marks.now) c.atoms.atom c.in-Some.rule ≡ false → Walk (g.S.RuleSource.meaning c.args.set.now.source.now) (lower g.L.Level.below c.args.levels.now.entries.now c.atoms.atom) (marked c.args.set.now.marks.now) c.atoms.atom c.after-next.result
+  goes_on fails =
+      let source = c.args.set.now.source.now in
+      let atom = c.atoms.atom in
+      walk_goes_on (g.S.RuleSource.meaning source) (lower g.L.Level.below c.args.levels.now.entries.now atom) (marked c.args.set.now.marks.now) atom c.rules.next c.rules.invariant c.in-Some.rule c.in-Some.is c.args.heads.now c.after-next.result (g.S.RuleSource.lawful source) c.requires.heads (omega arith) c.after-next.ensures.value fails
+
+pub rules-smaller-then-not-negative_part_holds : goal.rules-smaller-then-not-negative_part_holds
+rules-smaller-then-not-negative_part_holds g c = shortens g (goal.at.rules-smaller-then-not-negative_part_holds g c).After-after-next
+
+pub rules-preserved-then-not-negative_part_holds : goal.rules-preserved-then-not-negative_part_holds
+rules-preserved-then-not-negative_part_holds g c =
+    goes_on g (goal.at.rules-preserved-then-not-negative_part_holds g c).After-after-next
+    (not_by_negative g.L.Level.below (g.S.RuleSource.meaning c.args.set.now.source.now) c.args.set.now.marks.now c.args.levels.now.entries.now c.atoms.atom c.rules.next c.rules.invariant c.in-Some.rule c.in-Some.is (sym c.if-not-is_marked.ensures.value) (sym c.if-not-negative_part_holds.ensures.value))
+
+-- the positive atom that is looked at is not marked, or its level is not lower
+not_by_atom : (g : given.Over) (c : In-Some-other g) → under g.L.Level.below c.args.set.now.marks.now c.args.levels.now.entries.now c.atoms.atom c.in-Some-other.other ≡ false → supporting (g.S.RuleSource.meaning c.args.set.now.source.now) (lower g.L.Level.below c.args.levels.now.entries.now c.atoms.atom) (marked c.args.set.now.marks.now) c.atoms.atom c.in-Some.rule ≡ false
+not_by_atom g c fails =
+    let left = atoms_left g.S.RuleSource.meaning in
+    not_by_positive g.L.Level.below (g.S.RuleSource.meaning c.args.set.now.source.now) c.args.set.now.marks.now c.args.levels.now.entries.now c.atoms.atom c.rules.next c.rules.invariant c.in-Some.rule c.in-Some.is (sym c.if-not-is_marked.ensures.value) (left c.positive.other-iterator) c.positive.invariant c.in-Some-other.other (left c.next.new.self) c.in-Some-other.ensures.steps fails
+
+pub rules-smaller-then-not-is_marked-2 : goal.rules-smaller-then-not-is_marked-2
+rules-smaller-then-not-is_marked-2 g c = shortens g (goal.at.rules-smaller-then-not-is_marked-2 g c).After-after-next
+
+pub rules-preserved-then-not-is_marked-2 : goal.rules-preserved-then-not-is_marked-2
+rules-preserved-then-not-is_marked-2 g c =
+    let at = goal.at.rules-preserved-then-not-is_marked-2 g c in
+    goes_on g at.After-after-next (not_by_atom g at.In-Some-other (and_left (marked c.args.set.now.marks.now c.in-Some-other.other) (lower g.L.Level.below c.args.levels.now.entries.now c.atoms.atom c.in-Some-other.other) (sym c.if-not-is_marked-2.ensures.value)))
 
 pub rules-smaller : goal.rules-smaller
-rules-smaller g c =
-    let below = g.L.Level.below in
-    let source = c.args.set.now.source.now in
-    let p = g.S.RuleSource.meaning source in
-    let marks = c.args.set.now.marks.now in
-    let entries = c.args.levels.now.entries.now in
-    let atom = c.atoms.atom in
-    walk_shortens p (lower below entries atom) (marked marks) atom c.rules.next c.rules.invariant c.in-Some.rule c.in-Some.is c.args.heads.now c.after-next.result (g.S.RuleSource.lawful source) c.requires.heads (omega arith) c.after-next.ensures.value
+rules-smaller g c = shortens g (goal.at.rules-smaller g c).After-after-next
 
 pub rules-preserved : goal.rules-preserved
 rules-preserved g c =
+    let at = goal.at.rules-preserved g c in
     let below = g.L.Level.below in
-    let source = c.args.set.now.source.now in
-    let p = g.S.RuleSource.meaning source in
-    let marks = c.args.set.now.marks.now in
     let entries = c.args.levels.now.entries.now in
-    let atom = c.atoms.atom in
-    let left = atoms_left g.S.RuleSource.meaning in
-    let high = lower_read below entries atom c.in-Some-other.other false c.level.result c.level-own.result c.if-not-both_below.ensures.value c.level.ensures.value c.level-own.ensures.value in
-    let fails = not_by_rule below p marks entries atom c.in-Some.rule (left c.positive.other-iterator) c.positive.invariant c.in-Some-other.other (left c.next.new.self) c.in-Some-other.ensures.steps high in
-    walk_goes_on p (lower below entries atom) (marked marks) atom c.rules.next c.rules.invariant c.in-Some.rule c.in-Some.is c.args.heads.now c.after-next.result (g.S.RuleSource.lawful source) c.requires.heads (omega arith) c.after-next.ensures.value fails
+    let high = lower_read below entries c.atoms.atom c.in-Some-other.other false c.level.result c.level-own.result c.if-not-both_below.ensures.value c.level.ensures.value c.level-own.ensures.value in
+    goes_on g at.After-after-next (not_by_atom g at.In-Some-other (and_right (marked c.args.set.now.marks.now c.in-Some-other.other) (lower below entries c.atoms.atom c.in-Some-other.other) high))
 
--- the rule grounds the atom: it supports it, and none of its positive atoms is left
+-- the rule grounds the atom: its negative part holds, and none of its positive atoms is left
 grounds : (g : given.Over) (c : In-None g) → ungrounded g.L.Level.below (g.S.RuleSource.meaning c.args.set.now.source.now) (marked c.args.set.now.marks.now) c.args.levels.now.entries.now c.atoms.atom ≡ false
 grounds g c =
     let below = g.L.Level.below in
@@ -96,8 +101,8 @@ grounds g c =
     let marks = c.args.set.now.marks.now in
     let entries = c.args.levels.now.entries.now in
     let atom = c.atoms.atom in
-    let passes = by_rule below p marks entries atom c.in-Some.rule (atoms_left g.S.RuleSource.meaning c.positive.other-iterator) c.positive.invariant c.in-None.ensures.steps.0 (sym c.if-not-supports.ensures.value) in
-    grounded_passes below p marks entries atom (grounded_by_lowest below p marks entries atom (Some c.in-Some.rule) (walk_finds p (lower below entries atom) (marked marks) atom c.rules.next c.rules.invariant c.in-Some.rule c.in-Some.is passes))
+    let supports = by_rule below p marks entries atom c.rules.next c.rules.invariant c.in-Some.rule c.in-Some.is (sym c.if-not-is_marked.ensures.value) (atoms_left g.S.RuleSource.meaning c.positive.other-iterator) c.positive.invariant c.in-None.ensures.steps.0 (sym c.if-not-negative_part_holds.ensures.value) in
+    grounded_passes below p marks entries atom (grounded_by_lowest below p marks entries atom (Some c.in-Some.rule) (walk_finds p (lower below entries atom) (marked marks) atom c.rules.next c.rules.invariant c.in-Some.rule c.in-Some.is supports))
 
 pub atoms-preserved : goal.atoms-preserved
 atoms-preserved g c =

@@ -7,6 +7,7 @@ use Rattle.rules.proofs.Tests.{lowest_from}
 use Rattle.marks.specs.Marks.{marked}
 use Rattle.support.proofs.Walk.{Walk, rules_left}
 use Rattle.verdict.specs.Judge.{lower, ungrounded}
+use Rattle.verdict.proofs.Grounded.{under}
 use Rattle.verdict.proofs.lowest_ungrounded.Given as goal
 
 -- the atoms that are left give the answer
@@ -25,9 +26,9 @@ invariant-rules g l =
 abbrev pub decreases-rules : goal.decreases-rules
 decreases-rules g l = rules_left (g.S.RuleSource.meaning l.set.source.now) l.atom l.next
 
--- what is left of the part gives whether all its levels are lower
+-- what is left of the part gives whether all its atoms are marked, with lower levels
 abbrev pub invariant-positive : goal.invariant-positive
 invariant-positive g l =
     let part = positive_part (g.S.RuleSource.meaning l.set.source.now) l.rule in
-    let test = lower g.L.Level.below l.levels.entries.now l.atom in
+    let test = under g.L.Level.below l.set.marks.now l.levels.entries.now l.atom in
     all test (atoms_left g.S.RuleSource.meaning l.other-iterator) ≡ all test part
