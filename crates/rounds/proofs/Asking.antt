@@ -100,21 +100,21 @@ module _ (p : Program) (set : Atoms) (known : Known p set) (lawful : Lawful p) (
     not_now : w.atom ≢ now
     not_now same = both_ways (taken p set last w.atom) waits.fails (ap (taken p set last) same ∙ now_taken (omega (arith, same, atom_known.1)))
 
-    module _ (after : ℕ → ℕ) (added : (other : ℕ) → after other ≡ key_added waiting rule w.atom other) (sized : length positions ≡ 16384) where
+    module _ (after : ℕ → ℕ) (added : (other : ℕ) → after other ≡ key_added 16385 waiting rule w.atom other) (sized : length positions ≡ 16384) where
       put_here : number_in (with_put positions rule (w.position + 1)) rule ≡ w.position + 1
       put_here = number_here (with_put positions rule (w.position + 1)) rule (w.position + 1) (entry_put_here positions rule (w.position + 1) low (omega (arith, few_rules, sized)))
 
       put_apart : (other : ℕ) → other ≢ rule → number_in (with_put positions rule (w.position + 1)) other ≡ number_in positions other
       put_apart other apart = ap (λ o. unwrap_or o 0) (entry_put_apart positions rule (w.position + 1) other apart low)
 
-      pub asked_waits : Progress p set last now 0 after coming (number_in (with_put positions rule (w.position + 1))) rounds × (waiting_under after now ≤ waiting_under waiting now)
+      pub asked_waits : Progress p set last now 0 after coming (number_in (with_put positions rule (w.position + 1))) rounds × (waiting_under 16385 after now ≤ waiting_under 16385 waiting now)
       asked_waits = (
         rule_waits p set last (number_in positions) waiting coming rounds now rule begun.rule begun.there is w.position w.atom here waits.fails behind
             after (number_in (with_put positions rule (w.position + 1)))
-            (key_here waiting after rule w.atom added low few_rules atom_known.0 (omega (arith, atom_known.1, lawful.atoms_bound)) is.asked_free)
-            (key_apart waiting after rule w.atom added)
+            (key_here waiting after 16385 rule w.atom added low (omega (arith, few_rules)) atom_known.0 (omega (arith, atom_known.1, lawful.atoms_bound)) is.asked_free)
+            (key_apart waiting after 16385 rule w.atom added)
             put_here put_apart,
-        no_more_once_added waiting after rule now w.atom added not_now,
+        no_more_once_added 16385 waiting after rule now w.atom added not_now,
       )
 
   module _ (none : first_wait (taken_before rounds round) from (drop from (positive_part p rule)) ≡ None) where
@@ -156,7 +156,7 @@ module _ (p : Program) (set : Atoms) (known : Known p set) (lawful : Lawful p) (
       head_known = within_parts p.atoms begun.rule.head (known begun.rule.head (supports_parts set begun.rule.head begun.rule supporting).1)
 
     module _ (h : ℕ) (at : head_at p rule ≡ Some h) where
-      pub asked_takes : number_in rounds h ≡ 0 → rest_holds set h (negative_part p rule) ≡ true → round ≤ p.atoms → (after : ℕ → ℕ) → ((other : ℕ) → after other ≡ key_added coming h (round + 1) other) → Progress p set last now 0 waiting after (number_in positions) (with_put rounds h round)
+      pub asked_takes : number_in rounds h ≡ 0 → rest_holds set h (negative_part p rule) ≡ true → round ≤ p.atoms → (after : ℕ → ℕ) → ((other : ℕ) → after other ≡ key_added 4098 coming h (round + 1) other) → Progress p set last now 0 waiting after (number_in positions) (with_put rounds h round)
       asked_takes fresh rest high after added =
           let same = head_is h at in
           let due : suc (suc last) ≡ round + 1 = omega (arith, next) in
@@ -164,7 +164,7 @@ module _ (p : Program) (set : Atoms) (known : Known p set) (lawful : Lawful p) (
           subst (λ xs. Progress p set last now 0 waiting after (number_in positions) xs) (ap (λ a. with_put rounds a (suc last)) same ∙ ap (with_put rounds h) (sym next))
           (rule_takes p set last (number_in positions) waiting coming rounds now rule begun.rule begun.there is
           (ap (number_in rounds) same ∙ fresh) (takes supporting) (head_known supporting).0 (head_known supporting).1 lawful.atoms_bound (omega (arith, next, high)) after
-          (λ other. added other ∙ ap (λ a. key_added coming a (round + 1) other) (sym same) ∙ ap (λ key. key_added coming begun.rule.head key other) (sym due)))
+          (λ other. added other ∙ ap (λ a. key_added 4098 coming a (round + 1) other) (sym same) ∙ ap (λ key. key_added 4098 coming begun.rule.head key other) (sym due)))
 
       -- the head is taken already
       pub asked_done : number_in rounds h ≢ 0 → Progress p set last now 0 waiting coming (number_in positions) rounds

@@ -15,27 +15,27 @@ use Rattle.rounds.specs.Taking.{number_in}
 use Rattle.rounds.proofs.Progress.{key_apart, key_here, place_of}
 use Rattle.rounds.proofs.Tables.{number_in_table}
 
-pub begins_none : (p : Program) (taking : Taking) → Idle taking → (after : WaitingLists) → ((a : ℕ) → key_of after a ≡ key_added (key_of taking.coming) start 1 a) → (sized : length taking.positions ≡ 16384) → Begins p 1 (record { waiting = taking.waiting; coming = after; positions = taking.positions; sized = sized })
+pub begins_none : (p : Program) (taking : Taking) → Idle taking → (after : WaitingLists 4098) → ((a : ℕ) → key_of after a ≡ key_added 4098 (key_of taking.coming) start 1 a) → (sized : length taking.positions ≡ 16384) → Begins p 1 (record { waiting = taking.waiting; coming = after; positions = taking.positions; sized = sized })
 begins_none p taking idle after added sized = record {
   upto = omega arith;
   waits = λ j some before. absurd (omega (arith, some, before));
   only = λ j some. absurd (omega (arith, some, idle.waits j));
-  first = key_here (key_of taking.coming) (key_of after) start 1 added (omega arith) (omega arith) (omega arith) (omega arith) (idle.comes start);
-  others = λ a apart. key_apart (key_of taking.coming) (key_of after) start 1 added a apart ∙ idle.comes a;
+  first = key_here (key_of taking.coming) (key_of after) 4098 start 1 added (omega arith) (omega arith) (omega arith) (omega arith) (idle.comes start);
+  others = λ a apart. key_apart (key_of taking.coming) (key_of after) 4098 start 1 added a apart ∙ idle.comes a;
   stands = idle.stands;
 }
 
 module _ (p : Program) (k : ℕ) (taking : Taking) (so_far : Begins p k taking) where
   -- one rule more waits for the start
-  module _ (low : 1 ≤ k) (within : k ≤ length p.rules) (few : k ≤ 16384) (after : WaitingLists) (added : (j : ℕ) → key_of after j ≡ key_added (key_of taking.waiting) k start j) where
+  module _ (low : 1 ≤ k) (within : k ≤ length p.rules) (few : k ≤ 16384) (after : WaitingLists 16385) (added : (j : ℕ) → key_of after j ≡ key_added 16385 (key_of taking.waiting) k start j) where
     fresh : key_of taking.waiting k ≡ 0
     fresh = ⊎_elim (λ none. none) (λ some. absurd (omega (arith, (so_far.only k (omega (arith, some))).1))) (cases_eq (key_of taking.waiting k) 0)
 
     here : key_of after k ≡ start
-    here = key_here (key_of taking.waiting) (key_of after) k start added low few (omega arith) (omega arith) fresh
+    here = key_here (key_of taking.waiting) (key_of after) 16385 k start added low (omega (arith, few)) (omega arith) (omega arith) fresh
 
     apart_same : (j : ℕ) → j ≢ k → key_of after j ≡ key_of taking.waiting j
-    apart_same = key_apart (key_of taking.waiting) (key_of after) k start added
+    apart_same = key_apart (key_of taking.waiting) (key_of after) 16385 k start added
 
     pub begins_more : (sized : length taking.positions ≡ 16384) → Begins p (k + 1) (record { waiting = after; coming = taking.coming; positions = taking.positions; sized = sized })
     begins_more sized = record {

@@ -130,14 +130,14 @@ module _ (p : Program) (set : Atoms) (last : ℕ) (waiting coming position : ℕ
           within_parts p.atoms b (known b (taken_in p set (suc last) b (taken_by_round p set (suc last) (suc last) b (omega arith) (omega (arith, upto)) (omega (arith, upto)))))
 
       -- an atom's rules are due in the next round exactly where this round takes some atom
-      pub takes_when_due : p.atoms ≤ 4096 → any_under coming (suc (suc last)) ≡ takes_some p set (suc last)
+      pub takes_when_due : p.atoms ≤ 4096 → any_under 4098 coming (suc (suc last)) ≡ takes_some p set (suc last)
       takes_when_due few =
-          same_truth (any_under coming (suc (suc last))) (takes_some p set (suc last))
-          (λ h. let found = some_from_lowest (λ b. coming b == suc (suc last)) 16384 (and_parts (leb 1 (suc (suc last))) (is_some (lowest (λ b. coming b == suc (suc last)) 16384)) h).1 in
+          same_truth (any_under 4098 coming (suc (suc last))) (takes_some p set (suc last))
+          (λ h. let found = some_from_lowest (λ b. coming b == suc (suc last)) 4097 (and_parts (leb 1 (suc (suc last))) (is_some (lowest (λ b. coming b == suc (suc last)) 4097)) h).1 in
           let is = now.coming_taken found.0 (eqb-true (coming found.0) (suc (suc last)) found.3) in
           let place = atom_of found.0 is in
           lowest_some (λ b. round_of p set b == suc last) p.atoms found.0 place.0 place.1 (eq-eqb (round_of p set found.0) (suc last) (its_round found.0 is)))
           (λ h. let found = some_from_lowest (λ b. round_of p set b == suc last) p.atoms h in
           let is = its_number found.0 (eqb-true (round_of p set found.0) (suc last) found.3) in
-          and_from (leb 1 (suc (suc last))) (is_some (lowest (λ b. coming b == suc (suc last)) 16384)) (le-leb 1 (suc (suc last)) (omega arith))
-          (lowest_some (λ b. coming b == suc (suc last)) 16384 found.0 found.1 (omega (arith, found.2, few)) (eq-eqb (coming found.0) (suc (suc last)) (now.taken_coming found.0 is))))
+          and_from (leb 1 (suc (suc last))) (is_some (lowest (λ b. coming b == suc (suc last)) 4097)) (le-leb 1 (suc (suc last)) (omega arith))
+          (lowest_some (λ b. coming b == suc (suc last)) 4097 found.0 found.1 (omega (arith, found.2, few)) (eq-eqb (coming found.0) (suc (suc last)) (now.taken_coming found.0 is))))

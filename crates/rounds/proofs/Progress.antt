@@ -32,16 +32,18 @@ module _ (f g : ℕ → ℕ) where
         let apart : other ≢ item = λ e. omega (arith, some, ap g e ∙ key_gone) in
         (apart, key_kept other apart)
 
-  module _ (item key : ℕ) (added : (other : ℕ) → g other ≡ key_added f item key other) where
+  module _ (places item key : ℕ) (added : (other : ℕ) → g other ≡ key_added places f item key other) where
     pub key_apart : (other : ℕ) → other ≢ item → g other ≡ f other
-    key_apart other apart = added other ∙ cond-false (other == item && free f item key) key (f other) (and_left (other == item) (free f item key) (ne_eqb other item apart))
+    key_apart other apart = added other ∙ cond-false (other == item && free places f item key) key (f other) (and_left (other == item) (free places f item key) (ne_eqb other item apart))
 
-    pub key_here : 1 ≤ item → item ≤ 16384 → 1 ≤ key → key ≤ 4097 → f item ≡ 0 → g item ≡ key
+    pub key_here : 1 ≤ item → item < places → 1 ≤ key → key ≤ 4097 → f item ≡ 0 → g item ≡ key
     key_here low high some few none =
         added item
-        ∙ cond-true (item == item && free f item key) key (f item)
-        (and_from (item == item) (free f item key) (eq-eqb item item refl)
-        (and_from (within 16384 item && within 4097 key) (f item == 0) (and_from (within 16384 item) (within 4097 key) (within_from 16384 item low high) (within_from 4097 key some few)) (eq-eqb (f item) 0 none)))
+        ∙ cond-true (item == item && free places f item key) key (f item)
+        (and_from (item == item) (free places f item key) (eq-eqb item item refl)
+        (and_from (leb 1 item && ltb item places && within 4097 key) (f item == 0)
+        (and_from (leb 1 item && ltb item places) (within 4097 key) (and_from (leb 1 item) (ltb item places) (le-leb 1 item low) (lt-ltb item places high)) (within_from 4097 key some few))
+        (eq-eqb (f item) 0 none)))
 
 -- a rule that is there
 pub place_of : (p : Program) (k : ℕ) (r : Rule) → rule_at p k ≡ Some r → (1 ≤ k) × (k ≤ length p.rules)
@@ -228,7 +230,7 @@ module _ (p : Program) (set : Atoms) (last : ℕ) (position : ℕ → ℕ) where
 
       -- the rule takes its head
       module _ (fresh : number_in rounds r.head ≡ 0) (takes : taken p set (suc last) r.head ≡ true) (low : 1 ≤ r.head) (high : r.head ≤ p.atoms) (few : p.atoms ≤ 4096) (round : suc last ≤ p.atoms)
-          (after : ℕ → ℕ) (added : (other : ℕ) → after other ≡ key_added coming r.head (suc (suc last)) other) where
+          (after : ℕ → ℕ) (added : (other : ℕ) → after other ≡ key_added 4098 coming r.head (suc (suc last)) other) where
         abbrev put : List ℕ
         put = with_put rounds r.head (suc last)
 
@@ -246,10 +248,10 @@ module _ (p : Program) (set : Atoms) (last : ℕ) (position : ℕ → ℕ) where
         none_before = now.coming_free r.head high fresh
 
         comes : after r.head ≡ suc (suc last)
-        comes = key_here coming after r.head (suc (suc last)) added low (omega (arith, high, few)) (omega arith) (omega (arith, round, few)) none_before
+        comes = key_here coming after 4098 r.head (suc (suc last)) added low (omega (arith, high, few)) (omega arith) (omega (arith, round, few)) none_before
 
         comes_apart : (b : ℕ) → b ≢ r.head → after b ≡ coming b
-        comes_apart = key_apart coming after r.head (suc (suc last)) added
+        comes_apart = key_apart coming after 4098 r.head (suc (suc last)) added
 
         -- an atom whose rules are due in this round is another one
         due_before : (b : ℕ) → after b ≡ suc last → coming b ≡ suc last

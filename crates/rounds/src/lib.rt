@@ -114,7 +114,7 @@ fn ask_rules<S: RuleSource>(
     requires first { 1 ≤ round }
     requires last { round ≤ (S.meaning set.now.source.now).atoms }
     ensures under { Under (S.meaning set.now.source.now) (marked set.now.marks.now) (round - 1) 0 0 taking.new rounds.new }
-    ensures fewer { waiting_under (key_of taking.new.coming) round ≤ waiting_under (key_of taking.old.coming) round }
+    ensures fewer { waiting_under 4098 (key_of taking.new.coming) round ≤ waiting_under 4098 (key_of taking.old.coming) round }
 {
     'rules: while let Some(rule) = taking.waiting.take(atom) {
         ask_rule(set, rounds, taking, rule, round);
@@ -133,8 +133,8 @@ fn ask_rule<S: RuleSource>(
     requires some { 1 ≤ rule }
     requires first { 1 ≤ round }
     requires last { round ≤ (S.meaning set.now.source.now).atoms }
-    ensures under { (now : ℕ) → 1 ≤ now → Under (S.meaning set.now.source.now) (marked set.now.marks.now) (round - 1) now rule taking.old rounds.old → Under (S.meaning set.now.source.now) (marked set.now.marks.now) (round - 1) now 0 taking.new rounds.new × (waiting_under (key_of taking.new.waiting) now ≤ waiting_under (key_of taking.old.waiting) now) }
-    ensures fewer { waiting_under (key_of taking.new.coming) round ≤ waiting_under (key_of taking.old.coming) round }
+    ensures under { (now : ℕ) → 1 ≤ now → Under (S.meaning set.now.source.now) (marked set.now.marks.now) (round - 1) now rule taking.old rounds.old → Under (S.meaning set.now.source.now) (marked set.now.marks.now) (round - 1) now 0 taking.new rounds.new × (waiting_under 16385 (key_of taking.new.waiting) now ≤ waiting_under 16385 (key_of taking.old.waiting) now) }
+    ensures fewer { waiting_under 4098 (key_of taking.new.coming) round ≤ waiting_under 4098 (key_of taking.old.coming) round }
 {
     let from = number_at(&taking.positions, rule);
     if let Some(wait) = next_wait(set.source, rounds, rule, from, round) {

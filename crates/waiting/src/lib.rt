@@ -7,26 +7,22 @@ ghost use Rattle.waiting.specs.Linked.{Linked};
 // Keys are 1 to KEYS.
 pub const KEYS: u16 = 4097;
 
-// Items are 1 to ITEMS.
-pub const ITEMS: u16 = 16384;
-
 const KEY_PLACES: usize = KEYS as usize + 1;
 
-const ITEM_PLACES: usize = ITEMS as usize + 1;
-
+// Items are the numbers from 1 on that are below PLACES: each has a place.
 // For each key the first item that waits under it; for each item the next one under the same key, and that key; 0 for none.
 #[derive(Drop)]
-pub struct WaitingLists {
+pub struct WaitingLists<const PLACES: usize> {
     first: [u16; KEY_PLACES],
-    next: [u16; ITEM_PLACES],
-    keys: [u16; ITEM_PLACES],
+    next: [u16; PLACES],
+    keys: [u16; PLACES],
     ghost first_sized: { length first ≡ 4098 },
-    ghost next_sized: { length next ≡ 16385 },
-    ghost keys_sized: { length keys ≡ 16385 },
-    ghost linked: { ∥ Linked first next keys ∥₁ },
+    ghost next_sized: { length next ≡ PLACES },
+    ghost keys_sized: { length keys ≡ PLACES },
+    ghost linked: { ∥ Linked PLACES first next keys ∥₁ },
 }
 
-impl WaitingLists {
+impl<const PLACES: usize> WaitingLists<PLACES> {
     ghost use Rattle.std.specs.Prelude.{◌≤◌, ℕ, Some, None};
     ghost use Rattle.waiting.specs.Waiting.{key_of, free, key_added, key_without, Held, first_under, any_under};
 
@@ -36,14 +32,14 @@ impl WaitingLists {
     {
         WaitingLists {
             first: [0; KEY_PLACES],
-            next: [0; ITEM_PLACES],
-            keys: [0; ITEM_PLACES],
+            next: [0; PLACES],
+            keys: [0; PLACES],
         }
     }
 
     // Lets an item wait under a key; an item that waits already, and an item or a key without a place, is passed over.
     pub fn add(&mut self, item: u16, key: u16)
-        ensures after { (other : ℕ) → key_of self.new other ≡ key_added (key_of self.old) item key other }
+        ensures after { (other : ℕ) → key_of self.new other ≡ key_added PLACES (key_of self.old) item key other }
     {
         if self.is_free(item, key) {
             let place = usize::from(item);
@@ -68,16 +64,16 @@ impl WaitingLists {
 
     // Does some item wait under the key?
     pub fn has(&self, key: u16) -> bool
-        ensures value { result ≡ any_under (key_of self.now) key }
+        ensures value { result ≡ any_under PLACES (key_of self.now) key }
     {
         self.first_under(key).is_some()
     }
 
     // Can the item be made to wait under the key: is there a place for both, and does it wait nowhere yet?
     fn is_free(&self, item: u16, key: u16) -> bool
-        ensures value { result ≡ free (key_of self.now) item key }
+        ensures value { result ≡ free PLACES (key_of self.now) item key }
     {
-        (1..=ITEMS).contains(&item)
+        (1..PLACES).contains(&usize::from(item))
             && (1..=KEYS).contains(&key)
             && self.keys[usize::from(item)] == 0
     }

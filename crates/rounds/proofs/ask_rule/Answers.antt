@@ -39,7 +39,7 @@ returns-then-rest_holds-clause-under g c now some is =
     )
 
 pub returns-then-rest_holds-clause-fewer : goal.returns-then-rest_holds-clause-fewer
-returns-then-rest_holds-clause-fewer g c = no_more_once_added (key_of c.args.taking.now.coming) (key_of c.add-then-rest_holds.new.self) c.in-Some-head.head c.args.round (c.args.round + 1) c.add-then-rest_holds.ensures.after (λ e. omega (arith, e))
+returns-then-rest_holds-clause-fewer g c = no_more_once_added 4098 (key_of c.args.taking.now.coming) (key_of c.add-then-rest_holds.new.self) c.in-Some-head.head c.args.round (c.args.round + 1) c.add-then-rest_holds.ensures.after (λ e. omega (arith, e))
 
 pub returns-then-number_at-ne0-clause-under : goal.returns-then-number_at-ne0-clause-under
 returns-then-number_at-ne0-clause-under g c now some is =

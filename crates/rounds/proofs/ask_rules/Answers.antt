@@ -25,7 +25,7 @@ pub rules-smaller : goal.rules-smaller
 rules-smaller g c =
     let place = (goal.at.rules-smaller g c).In-Some in
     let has = held g place in
-    let fewer = fewer_once_taken (key_of c.rules.taking.waiting) (key_of c.take.new.self) c.in-Some.rule c.args.atom c.in-Some.ensures.after has.0 has.3 has.1 has.2 in
+    let fewer = fewer_once_taken 16385 (key_of c.rules.taking.waiting) (key_of c.take.new.self) c.in-Some.rule c.args.atom c.in-Some.ensures.after has.0 has.3 has.1 has.2 in
     omega (arith, fewer, (c.ask_rule.ensures.under c.args.atom c.requires.some (taken g place)).1)
 
 pub rules-preserved : goal.rules-preserved

@@ -9,9 +9,9 @@ use Rattle.rounds.proofs.ask_rules.Given as goal
 abbrev pub invariant-rules : goal.invariant-rules
 invariant-rules g l = record {
   under : Under (g.S.RuleSource.meaning l.set.source.now) (marked l.set.marks.now) (l.round - 1) l.atom 0 l.taking l.rounds;
-  fewer : waiting_under (key_of l.taking.coming) l.round ≤ waiting_under (key_of l.initial.taking.coming) l.round;
+  fewer : waiting_under 4098 (key_of l.taking.coming) l.round ≤ waiting_under 4098 (key_of l.initial.taking.coming) l.round;
 }
 
 -- as many as still wait for it
 abbrev pub decreases-rules : goal.decreases-rules
-decreases-rules g l = waiting_under (key_of l.taking.waiting) l.atom
+decreases-rules g l = waiting_under 16385 (key_of l.taking.waiting) l.atom

@@ -33,7 +33,7 @@ ask_rules-requires-clause-some g c = (held g (goal.at.ask_rules-requires-clause-
 pub atoms-smaller : goal.atoms-smaller
 atoms-smaller g c =
     let has = held g (goal.at.atoms-smaller g c).In-Some in
-    let fewer = fewer_once_taken (key_of c.atoms.taking.coming) (key_of c.take.new.self) c.in-Some.atom c.args.round c.in-Some.ensures.after has.0 has.3 has.1 has.2 in
+    let fewer = fewer_once_taken 4098 (key_of c.atoms.taking.coming) (key_of c.take.new.self) c.in-Some.atom c.args.round c.in-Some.ensures.after has.0 has.3 has.1 has.2 in
     omega (arith, fewer, c.ask_rules.ensures.fewer)
 
 -- no atom is due any more
@@ -55,7 +55,7 @@ returns-clause-value g c =
     let next : suc last ≡ c.args.round = omega (arith, c.requires.first) in
     let due : c.args.round + 1 ≡ suc (suc last) = omega (arith, c.requires.first) in
     c.has.ensures.value
-    ∙ ap (any_under (key_of c.take.new.self)) due
+    ∙ ap (any_under 4098 (key_of c.take.new.self)) due
     ∙ takes_when_due p set last (key_of c.atoms.taking.waiting) (key_of c.take.new.self) (number_in c.atoms.taking.positions) c.atoms.rounds (over g end) (none_due g end) known (omega (arith, next, c.requires.last)) (g.S.RuleSource.lawful c.args.set.now.source.now).atoms_bound
     ∙ ap (takes_some p set) next
 

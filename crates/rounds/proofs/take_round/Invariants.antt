@@ -11,4 +11,4 @@ invariant-atoms g l = record { under : Under (g.S.RuleSource.meaning l.set.sourc
 
 -- as many as are still due
 abbrev pub decreases-atoms : goal.decreases-atoms
-decreases-atoms g l = waiting_under (key_of l.taking.coming) l.round
+decreases-atoms g l = waiting_under 4098 (key_of l.taking.coming) l.round

@@ -4,4 +4,4 @@ use Rattle.waiting.proofs.Taking.{any_from_first}
 use Rattle.waiting.proofs.WaitingLists.has.Goals as goal
 
 pub returns : goal.returns
-returns c = record { value = c.is_some.ensures ∙ ap is_some c.first_under.ensures.value ∙ any_from_first c.args.self.now c.args.key }
+returns g c = record { value = c.is_some.ensures ∙ ap is_some c.first_under.ensures.value ∙ any_from_first c.args.self.now c.args.key }

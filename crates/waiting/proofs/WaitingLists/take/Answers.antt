@@ -6,22 +6,22 @@ use Rattle.waiting.proofs.Taking.{first_is_held, linked_without_first, none_is_h
 use Rattle.waiting.proofs.WaitingLists.take.Goals as goal
 
 pub returns-in_err-item-clause-none : goal.returns-in_err-item-clause-none
-returns-in_err-item-clause-none c none =
+returns-in_err-item-clause-none g c none =
     let missing : first_under c.args.self.now c.args.key ≡ None = search rules in
     none_is_held c.args.self.now c.args.key missing
 
 pub bounds-self-place : goal.bounds-self-place
-bounds-self-place c =
+bounds-self-place g c =
     let found : first_under c.args.self.now c.args.key ≡ Some c.in_ok-item.item = search rules in
     omega (arith, c.from-place.ensures, (first_is_held c.args.self.now c.args.key c.in_ok-item.item found).2)
 
 pub bounds-self-place-2 : goal.bounds-self-place-2
-bounds-self-place-2 c =
+bounds-self-place-2 g c =
     let found : first_under c.args.self.now c.args.key ≡ Some c.in_ok-item.item = search rules in
     omega (arith, c.from-place.ensures, (first_is_held c.args.self.now c.args.key c.in_ok-item.item found).2)
 
 pub invariant_of-self : goal.invariant_of-self
-invariant_of-self c =
+invariant_of-self g c =
     let lists = c.args.self.now in
     let found : first_under lists c.args.key ≡ Some c.in_ok-item.item = search rules in
     record {
@@ -32,6 +32,6 @@ invariant_of-self c =
     }
 
 pub returns-clause-held : goal.returns-clause-held
-returns-clause-held c item is =
+returns-clause-held g c item is =
     let found : first_under c.args.self.now c.args.key ≡ Some item = search rules in
     first_is_held c.args.self.now c.args.key item found
