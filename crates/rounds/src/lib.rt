@@ -136,9 +136,9 @@ fn ask_rule<S: RuleSource>(
     ensures under { (now : ℕ) → 1 ≤ now → Under (S.meaning set.now.source.now) (marked set.now.marks.now) (round - 1) now rule taking.old rounds.old → Under (S.meaning set.now.source.now) (marked set.now.marks.now) (round - 1) now 0 taking.new rounds.new × (waiting_under 16385 (key_of taking.new.waiting) now ≤ waiting_under 16385 (key_of taking.old.waiting) now) }
     ensures fewer { waiting_under 4098 (key_of taking.new.coming) round ≤ waiting_under 4098 (key_of taking.old.coming) round }
 {
-    let from = number_at(&taking.positions, rule);
+    let from = position_at(&taking.positions, rule);
     if let Some(wait) = next_wait(set.source, rounds, rule, from, round) {
-        put_entry(&mut taking.positions, rule, wait.position + 1);
+        put_entry(&mut taking.positions, rule, (wait.position + 1) as u8);
         taking.waiting.add(rule, wait.atom);
         return;
     }
@@ -152,6 +152,13 @@ fn ask_rule<S: RuleSource>(
         put_entry(rounds, head, round);
         taking.coming.add(head, round + 1);
     }
+}
+
+// The position from which a rule is asked on.
+fn position_at(positions: &[u8], rule: u16) -> u16
+    ensures value { result ≡ number_in positions.now rule }
+{
+    u16::from(entry(positions, rule).unwrap_or(0))
 }
 
 // Does the rule support its head once all its positive atoms are taken, and so marked?

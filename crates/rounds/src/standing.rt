@@ -18,8 +18,8 @@ pub(crate) struct Taking {
     pub(crate) waiting: WaitingLists<RULE_PLACES>,
     // atoms, each under the round in which the rules that wait for it are asked: the one after that which took it
     pub(crate) coming: WaitingLists<ATOM_PLACES>,
-    // for each rule, the position after that of the atom that it waits for
-    pub(crate) positions: [u16; MAX_RULES as usize],
+    // for each rule, the position after that of the atom that it waits for: at most 255, since parts are short
+    pub(crate) positions: [u8; MAX_RULES as usize],
     ghost sized: { length positions ≡ 16384 },
 }
 
