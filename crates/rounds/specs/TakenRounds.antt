@@ -22,5 +22,6 @@ abbrev pub by_lengths : Program → Atoms → List ℕ → Result (Unit {0}) Ref
 by_lengths p set rounds (Ok u) = record { count = Ok (rounds_needed p set); rounds = table_of (round_of p set) p.atoms }
 by_lengths p set rounds (Err e) = record { count = Err e; rounds = rounds }
 
+-- how many rounds take an atom, and the round table afterwards: the lengths of the marks and of the round table are checked first
 abbrev pub all_taken : Program → List ℕ → List ℕ → TakenRounds
 all_taken p marks rounds = by_lengths p (marked marks) rounds (lengths_checked p.atoms marks rounds)
