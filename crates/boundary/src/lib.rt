@@ -8,7 +8,7 @@ ghost use Rattle.console.specs.Line.{line_of};
 ghost use Rattle.boundary.specs.Copies.{copied};
 ghost use Rattle.boundary.specs.Files.{judged_file, refuted_file, settled_file};
 ghost use Rattle.boundary.specs.Lists.{Listed};
-ghost use Rattle.boundary.specs.Outputs.{Tells};
+ghost use Rattle.boundary.specs.Outputs.{put, MaybePut};
 
 use crate::answers::{DONE, NO_MEMORY, TOO_LONG, Told, refusal_told, refutation_told, worded};
 use crate::copies::write_over;
@@ -27,6 +27,7 @@ mod lent;
 mod list;
 
 // The console's line for a program file and a certificate file, to the front of the output, and its length; 0 where memory or the output is too small.
+// When memory fails is open: no contract of the allocator says it.
 #[unsafe(no_mangle)]
 pub extern "C" fn boundary_line(
     heap: Global,
@@ -34,7 +35,7 @@ pub extern "C" fn boundary_line(
     certificate: &[u8],
     out: &mut [u8],
 ) -> usize
-    ensures value { Tells (line_of (answer_for program.now certificate.now)) result out.new }
+    ensures value { MaybePut (line_of (answer_for program.now certificate.now)) out.old (record { answer = result; out = out.new }) }
 {
     match line_for(heap, program, certificate) {
         Ok(line) => put_out(line.as_bytes(), out),
@@ -44,7 +45,8 @@ pub extern "C" fn boundary_line(
 
 // Puts the bytes to the front of the output, and tells how many they are; 0 where they do not fit.
 fn put_out(bytes: &[u8], out: &mut [u8]) -> usize
-    ensures value { Tells bytes.now result out.new }
+    ensures value { result ≡ (put bytes.now out.old).answer }
+    ensures after { out.new ≡ (put bytes.now out.old).out }
 {
     if bytes.len() > out.len() {
         return 0;
