@@ -1,13 +1,14 @@
 // The library's calls, for callers from C: on the bytes of files, and on tables that the caller lends.
 #![tactic(auto)]
 
-ghost use Rattle.std.specs.Prelude.{◌≡◌, ◌≤◌, length};
+ghost use Rattle.std.specs.Prelude.{◌≡◌, ◌<◌, ◌≤◌, length};
 ghost use Rattle.program.specs.Reading.{program_in};
 ghost use Rattle.console.specs.Answer.{answer_for};
 ghost use Rattle.console.specs.Line.{line_of};
 ghost use Rattle.boundary.specs.Copies.{copied};
 ghost use Rattle.boundary.specs.Files.{judged_file, refuted_file, settled_file};
-ghost use Rattle.boundary.specs.Lists.{Listed};
+ghost use Rattle.boundary.specs.Answers.{worded};
+ghost use Rattle.boundary.specs.Lists.{Crossed, Listed};
 ghost use Rattle.boundary.specs.Outputs.{put, MaybePut};
 
 use crate::answers::{DONE, NO_MEMORY, TOO_LONG, Told, refusal_told, refutation_told, worded};
@@ -110,6 +111,7 @@ pub extern "C" fn boundary_settle(
 
 // Performs a list of calls over the program of a program file: on the tables as they are, for 0; after making a survey, for 1; after making it from the certificate, for any other number.
 #[unsafe(no_mangle)]
+#[tactic(auto, using(crate::proofs::Lists::performed_listed, crate::proofs::Lists::failed_listed))]
 pub extern "C" fn boundary_list(
     heap: Global,
     program: &[u8],
@@ -123,7 +125,8 @@ pub extern "C" fn boundary_list(
     asks: &mut [AskCode],
     answers: &mut [Told],
 ) -> Told
-    ensures value { length stored.old ≤ 4097 → Listed (program_in program.now) routes making certificate.now codes.now (record { marks = marks.old; stored = stored.old }) (record { marks = marks.new; stored = stored.new }) result }
+    ensures value { length stored.old ≤ 4097 → Listed (program_in program.now) routes making certificate.now codes.now (record { marks = marks.old; stored = stored.old; rounds = rounds.old; asks = asks.old; answers = answers.old }) (record { marks = marks.new; stored = stored.new; rounds = rounds.new; asks = asks.new; answers = answers.new }) result }
+    ensures too_long { 4097 < length stored.old → (result ≡ worded 11 (length stored.old)) × (◌≡◌ {A = Crossed} (record { marks = marks.new; stored = stored.new; rounds = rounds.new; asks = asks.new; answers = answers.new }) (record { marks = marks.old; stored = stored.old; rounds = rounds.old; asks = asks.old; answers = answers.old })) }
 {
     if stored.len() > TABLE {
         return worded(TOO_LONG, stored.len());
