@@ -4,7 +4,7 @@ import os
 import re
 import shutil
 
-CRATES = os.path.join(os.path.dirname(os.path.abspath(__file__)), "..", "crates")
+BENCH = os.path.dirname(os.path.abspath(__file__))
 
 # The columns of the tables.
 NAMES = ("judge", "settle", "clasp")
@@ -24,8 +24,8 @@ SATISFIABLE = re.compile(r"^(?:UN)?SATISFIABLE$", re.MULTILINE)
 
 
 def built(name):
-    """The program of a crate, where `rt run` leaves it."""
-    return os.path.realpath(f"{CRATES}/{name}/out/{name}")
+    """The program of a crate, where `prepare` puts it."""
+    return f"{BENCH}/out/{name}"
 
 
 JUDGE = Run("judge", [built("judge")], ".", LINE)
