@@ -8,7 +8,8 @@ Each input becomes a folder FOLDER/NAME/EIGHTHS with
   bare/                           the same plan for settle, its certificate without levels
   program.smodels, program.aspif  the same rules for clasp, which is to check the claimed set and no other
   answers                         the lines that judge and settle must print, and the word that clasp must
-FOLDER/empty/0 has a plan without atoms and rules, which costs what starting costs. The inputs are the same at each run.
+FOLDER/empty/0 has a plan without atoms and rules, which costs what starting costs, and FOLDER/one-broken/0 one with a broken rule
+alone. The inputs are the same at each run.
 docs/FORMATS.md describes the binary files.
 """
 import collections
@@ -376,6 +377,7 @@ def write(folder, plan):
 def main():
     (folder,) = sys.argv[1:]
     write(f"{folder}/empty/0", Plan(0, [], []))
+    write(f"{folder}/one-broken/0", Plan(0, [(0, (), ())], []))
     for name, make in INPUTS.items():
         for eighths in SIZES:
             write(f"{folder}/{name}/{eighths}", make(eighths))

@@ -12,6 +12,9 @@ NAMES = ("judge", "settle", "clasp")
 # The input without atoms and rules, which costs what starting costs, and its size.
 EMPTY = ("empty", "0")
 
+# The one with a broken rule alone: a run that ends at a broken rule does not do all that a run on the empty input does.
+ONE_BROKEN = ("one-broken", "0")
+
 # The greatest size, in eighths.
 WHOLE = "8"
 
@@ -52,13 +55,19 @@ def check_answer(run, folder, output):
 
 
 def inputs_in(room):
-    """The names of the inputs beside the empty one."""
-    return sorted(name for name in os.listdir(room) if name != EMPTY[0])
+    """The names of the inputs that have sizes."""
+    return sorted(name for name in os.listdir(room) if name not in (EMPTY[0], ONE_BROKEN[0]))
 
 
 def places_in(room, sizes):
-    """The inputs at these sizes, the empty one first."""
-    return [EMPTY, *((name, size) for name in inputs_in(room) for size in sizes)]
+    """The inputs at these sizes, those that cost what starting costs first."""
+    return [EMPTY, ONE_BROKEN, *((name, size) for name in inputs_in(room) for size in sizes)]
+
+
+def start_of(folder):
+    """The input that costs what starting costs where runs end as they do on this one."""
+    with open(f"{folder}/answers", encoding="ascii") as file:
+        return ONE_BROKEN if file.read().startswith("broken ") else EMPTY
 
 
 def bytes_of(name, folder):
@@ -87,9 +96,9 @@ def print_table(title, columns, rows):
 def print_costs(title, room, cells, costs):
     """Prints what each input and size costs, and the costs of judge and of settle as parts of those of clasp; at the whole size
     also where what starting costs is taken off. `costs` has the cost of each column, and `cells` how it is written."""
-    start = costs[EMPTY]
     rows = []
     for (name, size), cost in costs.items():
+        start = costs[start_of(f"{room}/{name}/{size}")]
         row = [name, f"{size}/8", str(bytes_of("judge", f"{room}/{name}/{size}")), *cells[name, size]]
         row += [f"{cost[column] / cost['clasp']:.2f}" for column in ("judge", "settle")]
         for column in ("judge", "settle"):
@@ -102,12 +111,12 @@ def print_costs(title, room, cells, costs):
 
 def print_growth(title, room, sizes, costs):
     """Prints the cost of a byte at the least and at the greatest size, where what starting costs is taken off."""
-    start = costs[EMPTY]
     columns = ["input"]
     for column in NAMES:
         columns += [f"{column} at {sizes[0]}/8", f"at {sizes[-1]}/8", "growth"]
     rows = []
     for name in inputs_in(room):
+        start = costs[start_of(f"{room}/{name}/{sizes[-1]}")]
         row = [name]
         for column in NAMES:
             small, large = (
