@@ -14,10 +14,18 @@ pub(crate) fn block_of(numbers: &[u16]) -> Block
     ensures value { result.items ≡ word_bytes numbers.now }
 {
     let mut block = ArrayVec::new();
-    for number in numbers {
-        push_number(&mut block, *number);
-    }
+    push_numbers(&mut block, numbers);
     block
+}
+
+// Puts the bytes of numbers after the others.
+pub(crate) fn push_numbers(block: &mut Block, numbers: &[u16])
+    requires room { length block.old.items + 2 * length numbers.now ≤ 518 }
+    ensures after { block.new.items ≡ block.old.items ++ word_bytes numbers.now }
+{
+    for number in numbers {
+        push_number(block, *number);
+    }
 }
 
 // Puts the two bytes of a number after the others.

@@ -1,10 +1,10 @@
 // The records of a program file, each gathered in a block and copied to the front of the output it is given.
-ghost use Rattle.std.specs.Prelude.{◌≡◌, ◌≤◌, length};
+ghost use Rattle.std.specs.Prelude.{◌≡◌, ◌≤◌, [], length};
 ghost use Rattle.program.specs.Encoding.{head_bytes, rule_bytes, end_bytes};
 ghost use Rattle.writer.specs.Parts.{rule_or_empty};
 ghost use Rattle.writer.specs.Writing.{laid_over};
 
-use crate::block::{Block, block_of, copy_to};
+use crate::block::{Block, block_of, copy_to, push_numbers};
 use crate::part::{count_atoms, push_atoms};
 use records::kind::RecordKind;
 use rules::RuleSource;
@@ -36,23 +36,25 @@ pub(crate) fn write_rule<S: RuleSource>(source: &S, rule: u16, out: &mut [u8]) -
     ensures value { result ≡ length (rule_bytes (rule_or_empty (S.meaning source.now) rule)) }
     ensures after { out.new ≡ laid_over (rule_bytes (rule_or_empty (S.meaning source.now) rule)) out.old }
 {
-    let block = gather_rule(source, rule);
+    let mut block = Block::new();
+    gather_rule(source, rule, &mut block);
     copy_to(&block, out)
 }
 
-// The record of a rule: its length, its kind, the head, how many positive atoms there are, and the atoms.
-fn gather_rule<S: RuleSource>(source: &S, rule: u16) -> Block
-    ensures value { result.items ≡ rule_bytes (rule_or_empty (S.meaning source.now) rule) }
+// Puts the record of a rule into a block: its length, its kind, the head, how many positive atoms there are, and the atoms.
+// The block is lent: one that is handed back is copied, all 518 bytes of it.
+fn gather_rule<S: RuleSource>(source: &S, rule: u16, block: &mut Block)
+    requires empty { block.old.items ≡ [] }
+    ensures after { block.new.items ≡ rule_bytes (rule_or_empty (S.meaning source.now) rule) }
 {
     let positive = count_atoms(source, rule, Part::Positive);
     let negative = count_atoms(source, rule, Part::Negative);
     let size = 4 + 2 * (positive + negative);
     let kind = RecordKind::Rule.number();
     let head = source.head(rule).unwrap_or(0);
-    let mut block = block_of(&[size as u16, kind, head, positive as u16]);
-    push_atoms(source, rule, Part::Positive, &mut block);
-    push_atoms(source, rule, Part::Negative, &mut block);
-    block
+    push_numbers(block, &[size as u16, kind, head, positive as u16]);
+    push_atoms(source, rule, Part::Positive, block);
+    push_atoms(source, rule, Part::Negative, block);
 }
 
 // Writes the end record.
