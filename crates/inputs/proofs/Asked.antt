@@ -78,7 +78,7 @@ module _ (p : Program) (inputs : List ℕ) (lawful : Lawful p) (k : ℕ) where
       ∙ ap (option_map fact) (sym (cond-false (leb k n || ltb 16384 k) None (slice_get atoms (k - n - 1)) (or_from (leb k n) (ltb 16384 k) (lt-leb k n past) (le-ltb 16384 k near)))))
       (cases_lt 16384 k)
 
-  head_of_rule : (h : ℕ) → Some h ≡ head_at p k → Some h ≡ head_at (with_inputs p inputs) k
+  pub head_of_rule : (h : ℕ) → Some h ≡ head_at p k → Some h ≡ head_at (with_inputs p inputs) k
   head_of_rule h is =
       ⊎_elim
       (λ past. absurd (some_not_none (is ∙ ap (option_map (λ r. r.head)) (rule_at_past p k past))))
@@ -86,7 +86,7 @@ module _ (p : Program) (inputs : List ℕ) (lawful : Lawful p) (k : ℕ) where
       (cases_lt (length p.rules) k)
 
   -- where there is no rule below, the answer is that of the facts
-  head_of_absent : None ≡ head_at p k → fact_at p inputs k ≡ head_at (with_inputs p inputs) k
+  pub head_of_absent : None ≡ head_at p k → fact_at p inputs k ≡ head_at (with_inputs p inputs) k
   head_of_absent is =
       ⊎_elim
       (λ past. sym (ap (option_map (λ r. r.head)) (rule_is_fact past) ∙ head_of_fact (fact_at p inputs k)))
