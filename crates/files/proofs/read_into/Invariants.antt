@@ -1,9 +1,9 @@
--- There is never room for more bytes than the limit, and more of them are there with each turn.
+-- There are never more bytes than the limit, and more of them with each turn.
 use Rattle.std.proofs.Common.{◌-◌, ◌≤◌, vec_len}
 use Rattle.files.proofs.read_into.Given as goal
 
-abbrev pub invariant-loop-filled : goal.invariant-loop-filled
-invariant-loop-filled l = vec_len l.buffer ≤ 65001
+abbrev pub invariant-loop-block : goal.invariant-loop-block
+invariant-loop-block l = vec_len l.bytes ≤ 65001
 
-abbrev pub decreases-loop-filled : goal.decreases-loop-filled
-decreases-loop-filled l = 65001 - l.filled
+abbrev pub decreases-loop-block : goal.decreases-loop-block
+decreases-loop-block l = 65001 - vec_len l.bytes
